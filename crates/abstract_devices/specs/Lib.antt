@@ -1,0 +1,3 @@
+pub mod World
+pub mod Serve
+pub mod Operate

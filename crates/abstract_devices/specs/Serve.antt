@@ -1,0 +1,52 @@
+use Rattle.std.specs.Prelude.{ℕ, ◌==◌, ◌&&◌, nat_lt, List, [], ◌∷◌, ◌++◌, Bool, true, false, Option, Some, None, if◌then◌else◌}
+use Rattle.vt_types.specs.declared.device.Dev.{Dev}
+use Rattle.vt_types.specs.declared.device.Dev.TheVariants.{Con}
+use Rattle.dev_status.specs.Status.{has_bits, DRIVER_OK}
+use Rattle.dev_console.specs.Console.{ConsoleAnswer, console_answer}
+use Rattle.abstract_devices.specs.World.{World, AbstractDevice, AbstractQueue, Buffer, UsedBuffer, SignalMode, Always, Never, First, device, with_device, queue, with_queue}
+
+-- whether a used buffer is signalled, by the mode and the buffers that were used before
+abbrev pub signals : SignalMode → List UsedBuffer → Bool
+signals Always used = true
+signals Never used = false
+signals First [] = true
+signals First (u ∷ us) = false
+
+-- a number joins a rising list
+abbrev pub with_number : ℕ → List ℕ → List ℕ
+with_number n [] = n ∷ []
+with_number n (m ∷ ms) = if n == m then m ∷ ms else (if nat_lt n m then n ∷ m ∷ ms else m ∷ with_number n ms)
+
+abbrev pub has_some : List ℕ → Bool
+has_some [] = false
+has_some (b ∷ bs) = true
+
+-- the receive queue of the console is served only where input waits
+abbrev pub is_served : World → ℕ → Bool
+is_served w n = if n == 0 then has_some w.waiting else true
+
+-- the front buffer moves to the used ones, with these bytes written
+abbrev pub use_front : AbstractDevice → ℕ → AbstractQueue → Buffer → List Buffer → List ℕ → AbstractDevice
+use_front d n q b bs written =
+    record (with_queue d n (record q { available = bs; used = q.used ++ record { tag = b.tag; slots = b.slots; written = written } ∷ [] })) {
+      signalled = if signals q.mode q.used then with_number n d.signalled else d.signalled;
+    }
+
+-- a console buffer was answered
+abbrev pub answered : World → ℕ → AbstractQueue → Buffer → List Buffer → ConsoleAnswer → World
+answered w n q b bs a = record w { con = use_front w.con n q b bs a.written; waiting = a.waiting; console = a.console }
+
+-- the front buffer of a console queue is answered; where there is none, the kick ends
+abbrev pub serve_front : World → ℕ → AbstractQueue → List Buffer → World
+serve_front w n q [] = record w { con = with_queue w.con n (record q { kick = false }) }
+serve_front w n q (b ∷ bs) = answered w n q b bs (console_answer n b.readable b.room w.waiting w.console)
+
+-- a console queue is served where DRIVER_OK stands and it is set and was kicked
+abbrev pub serve_console : World → ℕ → Option AbstractQueue → World
+serve_console w n None = w
+serve_console w n (Some q) = if has_bits w.con.status DRIVER_OK && q.kick && is_served w n then serve_front w n q q.available else w
+
+-- the device serves one buffer of a queue; today's scripts serve the console alone
+abbrev pub serve : World → Dev → ℕ → World
+serve w Con n = serve_console w n (queue w.con n)
+serve w _ n = w

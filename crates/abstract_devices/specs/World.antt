@@ -1,0 +1,108 @@
+use Rattle.std.specs.Prelude.{ℕ, ◌==◌, List, [], ◌∷◌, zero, suc, Bool, true, false, Option, Some, None, replicate, slice_get, slice_set}
+use Rattle.vt_types.specs.declared.device.Dev.{Dev}
+use Rattle.vt_types.specs.declared.device.Dev.TheVariants.{Blk, Net, Con}
+use Rattle.vt_types.specs.Device.{queue_count}
+use Rattle.dev_status.specs.Status.{StatusState}
+
+-- a buffer that the driver made available: its tag, the readable bytes, the bytes of its writable room, and its slots
+pub record Buffer : Type 0 where
+  pub tag : ℕ
+  pub readable : List ℕ
+  pub room : ℕ
+  pub slots : ℕ
+
+-- a buffer that the device used: the bytes that it wrote, at most as many as there was room for
+pub record UsedBuffer : Type 0 where
+  pub tag : ℕ
+  pub slots : ℕ
+  pub written : List ℕ
+
+-- when a used buffer is signalled: always, never, or where no used buffer stood before
+pub data SignalMode : Type 0 where
+  Always : SignalMode
+  Never : SignalMode
+  First : SignalMode
+
+-- a queue that is set: its size, whether it was kicked, the available buffers and the used and not yet reaped ones, each
+-- in order
+pub record AbstractQueue : Type 0 where
+  pub size : ℕ
+  pub kick : Bool
+  pub available : List Buffer
+  pub used : List UsedBuffer
+  pub mode : SignalMode
+
+-- a device as its driver knows it: whether it was probed, and reset since; its status and accepted features; its queues,
+-- set or not; the numbers of the signalled queues, rising; and whether a configuration change was signalled
+pub record AbstractDevice : Type 0 where
+  pub probed : Bool
+  pub reset_since : Bool
+  pub status : ℕ
+  pub accepted : ℕ
+  pub queues : List (Option AbstractQueue)
+  pub signalled : List ℕ
+  pub config : Bool
+
+-- the disk: its sectors, and whether it is read-only
+pub record AbstractDisk : Type 0 where
+  pub sectors : List (List ℕ)
+  pub read_only : Bool
+
+-- everything: the three devices, the disk, the frames that were sent, the console's waiting input and its bytes
+pub record World : Type 0 where
+  pub blk : AbstractDevice
+  pub net : AbstractDevice
+  pub con : AbstractDevice
+  pub disk : AbstractDisk
+  pub sent : List (List ℕ)
+  pub waiting : List ℕ
+  pub console : List ℕ
+
+-- the features that a device offers: for the console SIZE and EMERG_WRITE, and INDIRECT_DESC, EVENT_IDX and VERSION_1
+-- (VIRTIO 1.2, 5.3.3 and 6)
+abbrev pub offered : Dev → ℕ
+offered Con = 0x130000005
+offered _ = 0x130000000
+
+abbrev pub device : World → Dev → AbstractDevice
+device w Blk = w.blk
+device w Net = w.net
+device w Con = w.con
+
+abbrev pub with_device : World → Dev → AbstractDevice → World
+with_device w Blk d = record w { blk = d }
+with_device w Net d = record w { net = d }
+with_device w Con d = record w { con = d }
+
+-- the status machine of a device
+abbrev pub status_state : Dev → AbstractDevice → StatusState
+status_state dev d = record { offered = offered dev; accepted = d.accepted; status = d.status }
+
+abbrev pub join : {X : Type 0} → Option (Option X) → Option X
+join None = None
+join (Some x) = x
+
+-- a queue that is set
+abbrev pub queue : AbstractDevice → ℕ → Option AbstractQueue
+queue d n = join (slice_get d.queues n)
+
+abbrev pub with_queue : AbstractDevice → ℕ → AbstractQueue → AbstractDevice
+with_queue d n q = record d { queues = slice_set d.queues n (Some q) }
+
+-- a device before it is probed
+abbrev pub new_device : Dev → AbstractDevice
+new_device dev =
+    record {
+      probed = false;
+      reset_since = false;
+      status = 0;
+      accepted = 0;
+      queues = replicate (queue_count dev) None;
+      signalled = [];
+      config = false;
+    }
+
+-- the starting world, with this disk
+abbrev pub new_world : AbstractDisk → World
+new_world disk =
+    record { blk = new_device Blk; net = new_device Net; con = new_device Con; disk = disk; sent = []; waiting = []; console = [] }

@@ -1,0 +1,53 @@
+use crate::StatusMachine;
+use std::test::Fail;
+use vt_types::Features;
+
+#[test]
+fn follows_writes(rt: HostRuntime) -> Result<(), Fail> {
+    let mut machine = StatusMachine::new(Features(0x1_0000_0021));
+    assert_eq!(rt; machine.offered(0), 0x21);
+    assert_eq!(rt; machine.offered(1), 1);
+    assert_eq!(rt; machine.offered(2), 0);
+    // the low and the high word that the driver accepts, a write, its answer, and the status then
+    for (low, high, v, answer, status) in [
+        (0x21, 1, 0, true, 0),
+        (0x21, 1, 1, true, 1),
+        (0x21, 1, 3, true, 3),
+        (0x21, 1, 11, true, 11),
+        (0x21, 1, 15, true, 15),
+        (0, 0, 75, true, 15),
+        (0, 0, 0, true, 0),
+        (0x21, 0, 11, false, 3),
+        (0x04, 1, 11, false, 3),
+        (0x21, 3, 12, false, 3),
+        (0x01, 1, 4, true, 3),
+        (0x01, 1, 12, true, 15),
+        (0x01, 1, 128, true, 143),
+        (0, 0, 0, true, 0),
+    ] {
+        machine.accept(0, low);
+        machine.accept(1, high);
+        machine.accept(2, 7);
+        assert_eq!(rt; machine.write(v), answer, "write {v} of {low} {high}");
+        assert_eq!(rt; machine.status(), status, "status after {v}");
+    }
+    Ok(())
+}
+
+#[test]
+fn keeps_accepted_until_reset(rt: HostRuntime) -> Result<(), Fail> {
+    let mut machine = StatusMachine::new(Features(0x1_0000_0021));
+    machine.accept(0, 0x20);
+    machine.accept(1, 1);
+    machine.accept(0, 1);
+    assert!(rt; machine.write(8));
+    machine.accept(0, 0x20);
+    assert_eq!(rt; machine.accepted(), Features(0x1_0000_0001));
+    machine.needs_reset();
+    assert_eq!(rt; machine.status(), 72);
+    machine.reset();
+    assert_eq!(rt; machine.status(), 0);
+    assert_eq!(rt; machine.accepted(), Features(0));
+    assert_eq!(rt; machine.offered(0), 0x21);
+    Ok(())
+}

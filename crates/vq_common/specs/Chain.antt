@@ -1,0 +1,57 @@
+use Rattle.std.specs.Prelude.{◌≡◌, ℕ, ◌≤◌, List, Bool, IsTrue, Option, Some, None}
+use Rattle.arrayvec.specs.ArrayVec.{ArrayVec}
+use Rattle.vq_common.specs.declared.chain.Piece.{Piece}
+use Rattle.vq_common.specs.declared.chain.Chain.{Chain}
+use Rattle.vq_common.specs.declared.chain.RingCfg.{RingCfg}
+use Rattle.vq_common.specs.declared.chain.Take.{Take}
+use Rattle.vq_common.specs.declared.chain.Take.TheVariants as take
+use Rattle.vq_common.specs.Piece.{keeps_rules}
+use Rattle.vq_common.specs.Queue.{DeviceQueue, IsDeviceQueue}
+
+-- a chain as contracts see it: its id, the places that it takes of the ring, and its pieces in order
+pub record ChainValue : Type 0 where
+  pub id : ℕ
+  pub slots : ℕ
+  pub pieces : List Piece
+
+-- the value of a chain
+abbrev pub chain_value : Chain → ChainValue
+chain_value c = record { id = c.id; slots = c.slots; pieces = c.pieces.items }
+
+-- what a ring shows next: nothing, something malformed, or a chain
+pub data Walked : Type 0 where
+  Empty : Walked
+  Bad : Walked
+  Front : ChainValue → Walked
+
+-- and of what the code answers
+abbrev pub walked : Take → Walked
+walked take.Empty = Empty
+walked take.Bad = Bad
+walked (take.Front c) = Front (chain_value c)
+
+-- the list of pieces in an answer
+abbrev pub pieces_in : Option (ArrayVec Piece) → Option (List Piece)
+pieces_in None = None
+pieces_in (Some v) = Some v.items
+
+-- the record after a take
+abbrev pub after_take : (DeviceQueue → ChainValue → DeviceQueue) → DeviceQueue → Walked → DeviceQueue
+after_take taken q Empty = q
+after_take taken q Bad = q
+after_take taken q (Front c) = taken q c
+
+-- a take answers the walk, and takes the chain where there is one
+pub record TakesBy (walk : List ℕ → DeviceQueue → Walked) (taken : DeviceQueue → ChainValue → DeviceQueue) (mem : List ℕ) (old : DeviceQueue) (answer : Walked) (new : DeviceQueue) : Type 0 where
+  pub shows : answer ≡ walk mem old
+  pub record_after : new ≡ after_take taken old answer
+
+-- the record before the last take comes back
+abbrev pub UndoesTake : (RingCfg → ℕ) → (DeviceQueue → ChainValue → DeviceQueue) → DeviceQueue → ChainValue → DeviceQueue → Type 0
+UndoesTake positions taken old c new = (before : DeviceQueue) → IsDeviceQueue positions before → old ≡ taken before c → new ≡ before
+
+-- what is known of a chain that the walk shows
+pub record IsShown (areas_inside : ℕ → RingCfg → Bool) (memory : ℕ) (q : DeviceQueue) (c : ChainValue) : Type 0 where
+  pub rules : IsTrue (keeps_rules memory c.pieces)
+  pub slots : c.slots ≤ q.cfg.size
+  pub areas : IsTrue (areas_inside memory q.cfg)

@@ -1,0 +1,105 @@
+use Rattle.std.specs.Prelude.{◌≡◌, ℕ, ◌+◌, ◌-◌, ◌<◌, ◌==◌, ◌||◌, List, [], ◌∷◌, Bool, true, false, Option, Some, None, length, nat_lt, if◌then◌else◌}
+use Rattle.vt_types.specs.Access.{AccessValue}
+use Rattle.vt_types.specs.Operation.{PostedBuffer}
+use Rattle.vt_types.specs.Program.{Program, Mark, End, do_all}
+use Rattle.vq_common.specs.declared.chain.RingCfg.{RingCfg}
+use Rattle.vq_common.specs.declared.driver_end.Reaped.{Reaped}
+use Rattle.vq_common.specs.Map.{IsQueueBlock, driver_area, device_area}
+
+-- the sizes that a queue may have: the powers of two up to 1,024
+abbrev pub is_power_of_two : ℕ → Bool
+is_power_of_two n =
+    n == 1 || n == 2 || n == 4 || n == 8 || n == 16 || n == 32 || n == 64 || n == 128 || n == 256 || n == 512 || n == 1024
+
+-- a device's record of a queue: on a split ring the numbers of heads taken and of elements used, modulo 2 ^ 16; on a
+-- packed ring the two positions with their wrap counters
+pub record DeviceQueue : Type 0 where
+  pub cfg : RingCfg
+  pub taken : ℕ
+  pub taken_wrap : Bool
+  pub used : ℕ
+  pub used_wrap : Bool
+
+-- the numbers of a device's record are below the count of positions of its ring
+pub record IsDeviceQueue (positions : RingCfg → ℕ) (q : DeviceQueue) : Type 0 where
+  pub taken : q.taken < positions q.cfg
+  pub used : q.used < positions q.cfg
+
+-- a queue that was just set
+abbrev pub new_device_queue : RingCfg → DeviceQueue
+new_device_queue cfg = record { cfg = cfg; taken = 0; taken_wrap = true; used = 0; used_wrap = true }
+
+-- what giving a chain back leaves: memory, the record, and whether to signal
+pub record Given : Type 0 where
+  pub memory : List ℕ
+  pub queue : DeviceQueue
+  pub signals : Bool
+
+-- a buffer that was posted and not yet reaped: its tag, its id (packed), its descriptors with the head first (split), its
+-- slots, and its readable bytes
+pub record Unreaped : Type 0 where
+  pub tag : ℕ
+  pub id : ℕ
+  pub descriptors : List ℕ
+  pub slots : ℕ
+  pub readable : ℕ
+
+-- a driver's record of a queue: the next available and the next used index, or position with its wrap counter, and the
+-- unreaped buffers in the order of posting
+pub record DriverQueue : Type 0 where
+  pub cfg : RingCfg
+  pub base : ℕ
+  pub available : ℕ
+  pub available_wrap : Bool
+  pub used : ℕ
+  pub used_wrap : Bool
+  pub unreaped : List Unreaped
+
+-- a queue that was just set
+abbrev pub new_driver_queue : RingCfg → ℕ → DriverQueue
+new_driver_queue cfg base = record { cfg = cfg; base = base; available = 0; available_wrap = true; used = 0; used_wrap = true; unreaped = [] }
+
+-- what the areas of a driver's queue are
+pub record IsPlaced (cfg : RingCfg) (base : ℕ) : Type 0 where
+  pub block : IsQueueBlock base
+  pub desc : cfg.desc ≡ base
+  pub driver : cfg.driver ≡ driver_area base
+  pub device : cfg.device ≡ device_area base
+
+-- the slots of unreaped buffers
+abbrev pub slots_of_all : List Unreaped → ℕ
+slots_of_all [] = 0
+slots_of_all (u ∷ us) = u.slots + slots_of_all us
+
+-- the slots that are free
+abbrev pub free_slots : DriverQueue → ℕ
+free_slots q = q.cfg.size - slots_of_all q.unreaped
+
+-- an unreaped buffer has this tag
+abbrev pub holds_tag : ℕ → List Unreaped → Bool
+holds_tag tag [] = false
+holds_tag tag (u ∷ us) = u.tag == tag || holds_tag tag us
+
+-- the slots that a buffer takes
+abbrev pub slots_of : PostedBuffer → ℕ
+slots_of b = if b.indirect then 1 else length b.lengths
+
+-- a used buffer that was reaped, with its written bytes
+pub record ReapedValue : Type 0 where
+  pub tag : ℕ
+  pub len : ℕ
+  pub bytes : List ℕ
+
+-- the same of what the code answers, with its bytes in the room
+abbrev pub reaped_value : Option Reaped → List ℕ → Option ReapedValue
+reaped_value None room = None
+reaped_value (Some r) room = Some (record { tag = r.tag; len = r.len; bytes = room })
+
+-- posting: nothing where the buffer's slots exceed the free ones; else these accesses, the last of them marked
+abbrev pub post_program : (DriverQueue → PostedBuffer → List AccessValue) → (DriverQueue → PostedBuffer → DriverQueue) → DriverQueue → PostedBuffer → Program (Bool × DriverQueue)
+post_program accesses posted q b =
+    if nat_lt (free_slots q) (slots_of b) then End (false, q) else do_all (accesses q b) (Mark (End (true, posted q b)))
+
+-- what reaping may cost
+abbrev pub cost_of_reap : DriverQueue → ℕ
+cost_of_reap q = if q.cfg.event_idx then 1 else 0

@@ -1,0 +1,131 @@
+//! Descriptors of a split ring (VIRTIO 1.2, 2.7.5).
+
+ghost use Rattle.std.specs.Prelude.{⊤, ◌≡◌, ◌+◌, ◌*◌, ◌≤◌, [], ◌∷◌, Option, Some, None, IfSome, IsSome, ◌↔◌, codes, length};
+ghost use Rattle.vq_common.specs.Descriptor.{descriptor_at, descriptor_bytes, has_next, is_write, is_indirect, piece_of};
+
+use crate::chain::Piece;
+use bitflags::{Flag, Flags, bitflag_items};
+use byteorder::{ByteOrder, LittleEndian};
+use guest_mem::{GuestMem, Outside};
+
+/// A descriptor: `len` bytes of guest memory from `addr` on, its flags, and the place of the next descriptor of its
+/// chain (VIRTIO 1.2, 2.7.5).
+#[derive(Clone, Copy, Debug, Default, PartialEq, Eq)]
+pub struct Descriptor {
+    pub addr: u64,
+    pub len: u32,
+    pub flags: u16,
+    pub next: u16,
+}
+
+/// The flags of a descriptor (VIRTIO 1.2, 2.7.5).
+#[derive(Clone, Copy, Debug, PartialEq, Eq)]
+pub struct DescriptorFlags(pub u16);
+
+bitflag_items! {
+    impl DescriptorFlags: u16 {
+        const NEXT = 1;
+        const WRITE = 2;
+        const INDIRECT = 4;
+    }
+}
+
+impl Flags for DescriptorFlags {
+    type Bits = u16;
+
+    ghost exact = { ⊤ };
+
+    ghost table = { (codes "NEXT", 1) ∷ (codes "WRITE", 2) ∷ (codes "INDIRECT", 4) ∷ [] };
+
+    ghost set_of = { λ p. p.0 };
+
+    fn flags<'a>() -> &'a [Flag<DescriptorFlags>] {
+        DescriptorFlags::FLAGS
+    }
+
+    fn bits(&self) -> u16 {
+        self.0
+    }
+
+    fn from_bits_retain(bits: u16) -> DescriptorFlags {
+        DescriptorFlags(bits)
+    }
+}
+
+/// The address of a place of a table. None where it is past the end of memory.
+pub fn place_address(mem: &GuestMem, table: u64, place: u16) -> Option<u64>
+    ensures inside { IsSome result ↔ (table + 16 * place ≤ length mem.now) }
+    ensures value { IfSome result (λ addr. addr ≡ table + 16 * place) }
+{
+    let len = mem.len();
+    let offset = 16 * place as u64;
+    if offset <= len && table <= len - offset {
+        Some(table + offset)
+    } else {
+        None
+    }
+}
+
+impl Descriptor {
+    /// The descriptor at a place of a table. None exactly where its 16 bytes are not inside memory.
+    pub fn read(mem: &GuestMem, table: u64, place: u16) -> Option<Descriptor>
+        ensures inside { IsSome result ↔ (table + 16 * place + 16 ≤ length mem.now) }
+        ensures value { IfSome result (λ d. d ≡ descriptor_at mem.now table place) }
+    {
+        let addr = place_address(mem, table, place)?;
+        let mut room = [0u8; 16];
+        match mem.read(addr, &mut room) {
+            Ok(()) => Some(Descriptor {
+                addr: LittleEndian::read_u64(&room),
+                len: LittleEndian::read_u32(&room[8..]),
+                flags: LittleEndian::read_u16(&room[12..]),
+                next: LittleEndian::read_u16(&room[14..]),
+            }),
+            Err(Outside) => None,
+        }
+    }
+
+    /// The 16 bytes of the descriptor.
+    pub fn to_bytes(self) -> [u8; 16]
+        ensures { result ≡ descriptor_bytes self }
+    {
+        let mut bytes = [0u8; 16];
+        LittleEndian::write_u64(&mut bytes, self.addr);
+        LittleEndian::write_u32(&mut bytes[8..], self.len);
+        LittleEndian::write_u16(&mut bytes[12..], self.flags);
+        LittleEndian::write_u16(&mut bytes[14..], self.next);
+        bytes
+    }
+
+    /// Whether the chain goes on at `next`.
+    pub fn has_next(self) -> bool
+        ensures { result ≡ has_next self.flags }
+    {
+        DescriptorFlags(self.flags).contains(DescriptorFlags::NEXT)
+    }
+
+    /// Whether the device writes here.
+    pub fn is_write(self) -> bool
+        ensures { result ≡ is_write self.flags }
+    {
+        DescriptorFlags(self.flags).contains(DescriptorFlags::WRITE)
+    }
+
+    /// Whether the descriptor names a table of descriptors.
+    pub fn is_indirect(self) -> bool
+        ensures { result ≡ is_indirect self.flags }
+    {
+        DescriptorFlags(self.flags).contains(DescriptorFlags::INDIRECT)
+    }
+
+    /// The piece that the descriptor names.
+    pub fn piece(self) -> Piece
+        ensures { result ≡ piece_of self }
+    {
+        Piece {
+            addr: self.addr,
+            len: self.len,
+            write: self.is_write(),
+        }
+    }
+}

@@ -1,0 +1,4 @@
+pub mod FaultsLaws
+pub mod TextLaws
+pub mod SinkLaws
+pub mod WatchLaws

@@ -1,0 +1,32 @@
+//! What stands outside the machine: sources and sinks of bytes, disks and watches, each as a trait, with forms in
+//! memory whose failures are chosen, and adapters over std's readers and writers. All of it is our own.
+#![tactic(auto)]
+
+mod calls;
+mod disk;
+mod failed;
+mod mem_disk;
+mod mem_sink;
+mod mem_source;
+mod mem_watch;
+mod no_watch;
+mod sink;
+mod source;
+mod std_sink;
+mod std_source;
+#[cfg(test)]
+mod tests;
+mod watch;
+
+pub use disk::Disk;
+pub use failed::{Back, Failed};
+pub use mem_disk::MemDisk;
+pub use mem_sink::MemSink;
+pub use mem_source::MemSource;
+pub use mem_watch::MemWatch;
+pub use no_watch::NoWatch;
+pub use sink::Sink;
+pub use source::Source;
+pub use std_sink::StdSink;
+pub use std_source::StdSource;
+pub use watch::Watch;
