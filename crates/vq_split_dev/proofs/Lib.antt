@@ -1,0 +1,4 @@
+pub mod AreaLaws
+pub mod ChainLaws
+pub mod GiveLaws
+pub mod WalkLaws

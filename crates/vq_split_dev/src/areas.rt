@@ -1,0 +1,23 @@
+//! The three areas of a split ring (VIRTIO 1.2, 2.7).
+
+ghost use Rattle.std.specs.Prelude.{◌≡◌, ◌+◌, nat_le};
+ghost use Rattle.vq_split_dev.specs.Walk.{split_areas_inside};
+
+use vq_common::RingCfg;
+
+/// Whether `len` bytes from `addr` on lie inside a memory of `memory` bytes.
+fn is_inside(memory: u64, addr: u64, len: u64) -> bool
+    ensures { result ≡ nat_le (addr + len) memory }
+{
+    len <= memory && addr <= memory - len
+}
+
+/// Whether the ring's areas lie inside a memory of `memory` bytes.
+pub fn areas_inside(memory: u64, cfg: &RingCfg) -> bool
+    ensures { result ≡ split_areas_inside memory cfg.now }
+{
+    let size = cfg.size as u64;
+    is_inside(memory, cfg.desc, 16 * size)
+        && is_inside(memory, cfg.driver, 6 + 2 * size)
+        && is_inside(memory, cfg.device, 6 + 8 * size)
+}
