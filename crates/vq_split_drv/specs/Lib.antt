@@ -1,0 +1,4 @@
+pub mod Driver
+pub mod Free
+pub mod Post
+pub mod Reap
