@@ -1,0 +1,19 @@
+use Rattle.std.proofs.Common.{◌≡◌, ℕ, ◌≤◌, []}
+use Rattle.vt_types.specs.declared.device.BusKind.TheVariants.{Mmio}
+use Rattle.abstract_devices.specs.World.{World}
+use Rattle.abstract_devices.specs.Operate.{happen, placed_line}
+use Rattle.script_run.specs.Lowering.{DriverRecord}
+use Rattle.script_run.specs.RawServe.{raw_event}
+use Rattle.script_run.specs.RawState.{RawState}
+use Rattle.script_run.specs.Script.{ScriptLine, Operates, Happens, next_place}
+use Rattle.script_run.specs.Trace.{trace_of}
+use Rattle.script_run.proofs.Stands.{Stands}
+
+-- a line takes the two halves on to the next place: the operation's reply is that of its trace, its accesses are few, and
+-- no event stands before its mark
+abbrev pub LineHolds : ℕ → ScriptLine → World → RawState → DriverRecord → Type 0
+LineHolds place (Happens e) w raw known = Stands (happen w e) (raw_event raw e) known (next_place place)
+LineHolds place (Operates op events) w raw known =
+    let t = trace_of raw known op events in
+    let o = placed_line Mmio w op events t.place in
+    Stands o.world t.raw t.known (next_place place) × (o.reply ≡ t.reply) × (t.place ≡ 0) × (t.count ≤ 12) × (events ≡ [])

@@ -1,0 +1,155 @@
+use Rattle.std.proofs.Common.{◌≡◌, ℕ, List, true, false, Option, Some, refl, sym, ◌∙◌, ap, inl, inr}
+use Rattle.std.specs.Prelude.{Result, Ok, Err, ◌⊎◌, IsTrue, not, ◌||◌, ◌==◌}
+use Rattle.vt_outside.specs.Disk.{DiskView}
+use Rattle.vt_outside.specs.Faults.{Rose}
+use Rattle.vt_outside.specs.Sink.{SinkView}
+use Rattle.vt_outside.specs.Source.{SourceView}
+use Rattle.vt_outside.proofs.TextLaws.{prefix_equal}
+use Rattle.vt_outside.proofs.WatchLaws.{shows_none}
+use Rattle.abstract_devices.specs.World.{AbstractDisk, new_world}
+use Rattle.script_run.specs.declared.stop.Stop.{Stop}
+use Rattle.script_run.specs.declared.stop.Stop.TheVariants.{Read, Write, Memory}
+use Rattle.script_run.specs.Headline.{Headline, AnswersScript, Stopped, Written, is_run, usage}
+use Rattle.script_run.specs.Lowering.{new_record}
+use Rattle.script_run.specs.Output.{Sends}
+use Rattle.script_run.specs.RawState.{new_raw_state}
+use Rattle.script_run.specs.Report.{report_of}
+use Rattle.script_run.specs.Run.{RunsScript, ScriptCause, EndsAs, WritesReport, number_of, usage_number}
+use Rattle.script_run.specs.Script.{script_of, status_at_end}
+use Rattle.script_run.proofs.ReportLaws.{report_image}
+use Rattle.script_run.proofs.ScriptRunLaws.{same_disk}
+
+-- none of the numbers that end a script
+abbrev Other : ℕ → Type 0
+Other n = IsTrue (not (n == 0 || (n == 3 || n == 7)))
+
+not_last : (n status : ℕ) → (status ≡ 0) ⊎ ((status ≡ 3) ⊎ (status ≡ 7)) → status ≡ n → Other n → ⊥
+not_last n status (inl a) e o = let k = rw (sym e ∙ a) at o in cc
+not_last n status (inr (inl a)) e o = let k = rw (sym e ∙ a) at o in cc
+not_last n status (inr (inr a)) e o = let k = rw (sym e ∙ a) at o in cc
+
+-- the status that a stop gives
+stopped : (stop : Stop) → Stopped (number_of (Err stop))
+stopped Read = inl refl
+stopped Write = inr (inl refl)
+stopped Memory = inr (inr refl)
+
+-- what was written, by how the script was run
+written : (result : Result ℕ Stop) (text whole : List ℕ) → WritesReport result text whole → Written (number_of result) text whole
+written (Ok status) text whole all = (prefix_equal text whole all, inr all)
+written (Err stop) text whole part = (part, inl (stopped stop))
+
+ended : (result : Result ℕ Stop) (status : ℕ) (s : _) → EndsAs result s → Stopped (number_of result) ⊎ (number_of result ≡ status_at_end s)
+ended (Ok status) n s e = inr e
+ended (Err stop) n s e = inl (stopped stop)
+
+complete_of : (result : Result ℕ Stop) (s s2 : SourceView) (k k2 : SinkView) (script : _) → ScriptCause result s s2 k k2 → EndsAs result script → status_at_end script ≡ 0
+    → (Rose s.faults s2.faults → ⊥) → (Rose k.faults k2.faults → ⊥) → (number_of result ≡ 0) ⊎ (number_of result ≡ 6)
+complete_of (Ok status) s s2 k k2 script cause ends whole calm still = inl (ends ∙ whole)
+complete_of (Err Read) s s2 k k2 script cause ends whole calm still = absurd (calm cause)
+complete_of (Err Write) s s2 k k2 script cause ends whole calm still = absurd (still cause)
+complete_of (Err Memory) s s2 k k2 script cause ends whole calm still = inr refl
+
+answers : (s s2 : SourceView) (k k2 : SinkView) (d d2 : DiskView) (result : Result ℕ Stop) (r : RunsScript s s2 k k2 d d2 result) → AnswersScript s s2 k k2 d d2 (number_of result) r.text
+answers s s2 k k2 d d2 result r = record {
+  ends = λ input is. ended result 0 (script_of input) (r.ends input is);
+  report = λ input image is shows calm.
+      let disk : AbstractDisk = record { sectors = image; read_only = d.locked } in (
+        written result r.text (report_of input disk).text (r.report input image is shows calm),
+        r.disk.image ∙ shows ∙ ap (λ (z : List (List ℕ)). Some z) (sym (report_image (script_of input) 0 (new_world disk) new_raw_state new_record)),
+      );
+  complete = λ input is whole calm still. complete_of result s s2 k k2 (script_of input) r.cause (r.ends input is) whole calm still;
+}
+
+-- a script was run
+pub headline_of_run : (words : List (List ℕ)) (s s2 : SourceView) (k k2 : SinkView) (d d2 : DiskView) (w : Option (List ℕ)) (result : Result ℕ Stop)
+    → is_run words ≡ true → RunsScript s s2 k k2 d d2 result → Headline words s s2 k k2 d d2 w w (number_of result)
+headline_of_run words s s2 k k2 d d2 w (Ok status) is r = record {
+  text = r.text;
+  written = r.adds;
+  shown = shows_none w;
+  disk = r.disk;
+  known = elim r.cause [ inl e ↦ inr (inl e) | inr f ↦ elim f [ inl e ↦ inr (inr (inr (inl e))) | inr e ↦ inr (inr (inr (inr e))) ] ];
+  source_failed = λ e. absurd (not_last 4 status r.cause e refl);
+  sink_failed = λ e. absurd (not_last 5 status r.cause e refl);
+  only_usage = λ e. absurd (not_last 2 status r.cause e refl);
+  runs = λ yes_run. answers s s2 k k2 d d2 (Ok status) r;
+  refuses = λ no_run. cc;
+}
+headline_of_run words s s2 k k2 d d2 w (Err Read) is r = record {
+  text = r.text;
+  written = r.adds;
+  shown = shows_none w;
+  disk = r.disk;
+  known = inl (inl refl);
+  source_failed = λ e. r.cause;
+  sink_failed = λ e. cc;
+  only_usage = λ e. cc;
+  runs = λ yes_run. answers s s2 k k2 d d2 (Err Read) r;
+  refuses = λ no_run. cc;
+}
+headline_of_run words s s2 k k2 d d2 w (Err Write) is r = record {
+  text = r.text;
+  written = r.adds;
+  shown = shows_none w;
+  disk = r.disk;
+  known = inl (inr (inl refl));
+  source_failed = λ e. cc;
+  sink_failed = λ e. r.cause;
+  only_usage = λ e. cc;
+  runs = λ yes_run. answers s s2 k k2 d d2 (Err Write) r;
+  refuses = λ no_run. cc;
+}
+headline_of_run words s s2 k k2 d d2 w (Err Memory) is r = record {
+  text = r.text;
+  written = r.adds;
+  shown = shows_none w;
+  disk = r.disk;
+  known = inl (inr (inr refl));
+  source_failed = λ e. cc;
+  sink_failed = λ e. cc;
+  only_usage = λ e. cc;
+  runs = λ yes_run. answers s s2 k k2 d d2 (Err Memory) r;
+  refuses = λ no_run. cc;
+}
+
+-- the usage line was sent, or a part of it
+pub headline_of_usage : (words : List (List ℕ)) (s : SourceView) (k k2 : SinkView) (d : DiskView) (w : Option (List ℕ)) (result : Result Unit Stop)
+    → is_run words ≡ false → Sends k k2 usage result → Headline words s s k k2 d d w w (usage_number result)
+headline_of_usage words s k k2 d w (Ok x) is sent = record {
+  text = sent.sent;
+  written = sent.adds;
+  shown = shows_none w;
+  disk = same_disk d;
+  known = inr (inr (inl refl));
+  source_failed = λ e. cc;
+  sink_failed = λ e. cc;
+  only_usage = λ e. is;
+  runs = λ yes_run. cc;
+  refuses = λ no_run. record { answers = inl refl; writes = (prefix_equal _ _ sent.part, inr sent.part); source = refl; disk = refl };
+}
+headline_of_usage words s k k2 d w (Err Read) is sent = absurd sent.cause
+headline_of_usage words s k k2 d w (Err Write) is sent = record {
+  text = sent.sent;
+  written = sent.adds;
+  shown = shows_none w;
+  disk = same_disk d;
+  known = inl (inr (inl refl));
+  source_failed = λ e. cc;
+  sink_failed = λ e. sent.cause;
+  only_usage = λ e. cc;
+  runs = λ yes_run. cc;
+  refuses = λ no_run. record { answers = inr (inl refl); writes = (sent.part, inl (inr (inl refl))); source = refl; disk = refl };
+}
+headline_of_usage words s k k2 d w (Err Memory) is sent = record {
+  text = sent.sent;
+  written = sent.adds;
+  shown = shows_none w;
+  disk = same_disk d;
+  known = inl (inr (inr refl));
+  source_failed = λ e. cc;
+  sink_failed = λ e. cc;
+  only_usage = λ e. cc;
+  runs = λ yes_run. cc;
+  refuses = λ no_run. record { answers = inr (inr refl); writes = (sent.part, inl (inr (inr refl))); source = refl; disk = refl };
+}

@@ -1,0 +1,5 @@
+use Rattle.std.proofs.Common.{rules}
+use Rattle.script_run.proofs.dev_core.queue_slot.QueueSlot.give.Goals as goal
+
+pub give-requires-clause-slots : goal.give-requires-clause-slots
+give-requires-clause-slots c = (c.requires c.in-Some.ring (search rules)).slots

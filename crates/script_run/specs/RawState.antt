@@ -1,0 +1,56 @@
+use Rattle.std.specs.Prelude.{ℕ, ◌^◌, List, [], Bool, false, Option, None, replicate}
+use Rattle.vq_common.specs.Queue.{DeviceQueue}
+use Rattle.dev_status.specs.Status.{StatusState}
+
+-- the raw machine: guest memory as bytes, and the console with its registers
+
+-- guest memory has 2 ^ 28 bytes
+unfoldable pub MEMORY : ℕ
+MEMORY = 2 ^ 28
+
+-- the registers of one queue of a page, its ring where it is set, and whether it was kicked
+pub record RawQueue : Type 0 where
+  pub num : ℕ
+  pub desc : ℕ
+  pub driver : ℕ
+  pub device : ℕ
+  pub ring : Option DeviceQueue
+  pub kick : Bool
+
+-- a device with the registers of its page
+pub record RawDevice : Type 0 where
+  pub status : StatusState
+  pub device_features_select : ℕ
+  pub driver_features_select : ℕ
+  pub queue_select : ℕ
+  pub interrupt_status : ℕ
+  pub queues : List RawQueue
+
+-- the raw machine; the other two devices are not there yet
+pub record RawState : Type 0 where
+  pub memory : List ℕ
+  pub con : RawDevice
+  pub waiting : List ℕ
+  pub console : List ℕ
+
+abbrev pub new_raw_queue : RawQueue
+new_raw_queue = record { num = 0; desc = 0; driver = 0; device = 0; ring = None; kick = false }
+
+-- a device after a reset, with what it offers
+abbrev pub new_raw_device : ℕ → ℕ → RawDevice
+new_raw_device offered queues =
+    record {
+      status = record { offered = offered; accepted = 0; status = 0 };
+      device_features_select = 0;
+      driver_features_select = 0;
+      queue_select = 0;
+      interrupt_status = 0;
+      queues = replicate queues new_raw_queue;
+    }
+
+-- the console offers SIZE, EMERG_WRITE, INDIRECT_DESC, EVENT_IDX and VERSION_1, and has two queues
+abbrev pub CONSOLE_FEATURES : ℕ
+CONSOLE_FEATURES = 0x130000005
+
+abbrev pub new_raw_state : RawState
+new_raw_state = record { memory = replicate MEMORY 0; con = new_raw_device CONSOLE_FEATURES 2; waiting = []; console = [] }

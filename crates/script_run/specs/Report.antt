@@ -1,0 +1,114 @@
+use Rattle.std.specs.Prelude.{ℕ, ◌+◌, ◌==◌, List, [], ◌∷◌, ◌++◌, length, codes, if◌then◌else◌}
+use Rattle.std.specs.Fmt.{decimal}
+use Rattle.std.specs.List.{list_all}
+use Rattle.byteorder.specs.Endian.{big_bytes}
+use Rattle.hex.specs.Hex.{encode_lower}
+use Rattle.vt_types.specs.declared.device.BusKind.TheVariants.{Mmio}
+use Rattle.vt_types.specs.declared.reply.Why.{Why}
+use Rattle.vt_types.specs.declared.reply.Why.TheVariants as why
+use Rattle.vt_types.specs.Reply.{ReplyValue}
+use Rattle.vt_types.specs.Reply as reply
+use Rattle.abstract_devices.specs.World.{World, AbstractDisk, new_world}
+use Rattle.abstract_devices.specs.Operate.{happen, placed_line}
+use Rattle.script_run.specs.Lowering.{DriverRecord, new_record}
+use Rattle.script_run.specs.RawServe.{raw_event}
+use Rattle.script_run.specs.RawState.{RawState, new_raw_state}
+use Rattle.script_run.specs.Script.{Script, ScriptLine, Ends, BadLine, TooLong, Line, Operates, Happens, script_of}
+use Rattle.script_run.specs.Trace.{trace_of}
+
+-- bytes in hexadecimal, two digits each; `-` for none
+abbrev pub hex : List ℕ → List ℕ
+hex [] = codes "-"
+hex (b ∷ bytes) = encode_lower (b ∷ bytes)
+
+-- numbers, each after a space
+abbrev pub spaced : List ℕ → List ℕ
+spaced [] = []
+spaced (n ∷ ns) = codes " " ++ decimal n ++ spaced ns
+
+abbrev pub why_text : Why → List ℕ
+why_text why.State = codes "state"
+why_text why.Queue = codes "queue"
+why_text why.Size = codes "size"
+why_text why.Set = codes "set"
+why_text why.Unset = codes "unset"
+why_text why.Tag = codes "tag"
+why_text why.Full = codes "full"
+why_text why.Range = codes "range"
+why_text why.Mode = codes "mode"
+
+abbrev pub signals_text : List ℕ → List ℕ
+signals_text [] = codes "irq none"
+signals_text (n ∷ ns) = codes "irq" ++ spaced (n ∷ ns)
+
+-- a reply as it is printed
+abbrev pub reply_text : ReplyValue → List ℕ
+reply_text reply.Good = codes "ok"
+reply_text (reply.Id n) = codes "id " ++ decimal n
+reply_text (reply.Features f) = codes "features " ++ encode_lower (big_bytes 8 f)
+reply_text (reply.Status s) = codes "status " ++ encode_lower (big_bytes 1 s)
+reply_text (reply.Value bytes) = codes "value " ++ hex bytes
+reply_text reply.Nothing = codes "none"
+reply_text (reply.Used tag len bytes) = codes "used " ++ decimal tag ++ codes " " ++ decimal len ++ codes " " ++ hex bytes
+reply_text (reply.Signals ns) = signals_text ns
+reply_text reply.AnyQueue = codes "irq some"
+reply_text (reply.Config b) = if b then codes "irq config" else codes "irq none"
+reply_text (reply.Refused w) = codes "refused " ++ why_text w
+
+-- the line of a reply: the number of the script's line, the reply, the place and the count
+abbrev pub reply_line : ℕ → ReplyValue → ℕ → ℕ → List ℕ
+reply_line line r p n =
+    decimal line ++ codes " " ++ reply_text r ++ codes " p=" ++ decimal p ++ codes " n=" ++ decimal n ++ codes "\n"
+
+abbrev pub frame_lines : List (List ℕ) → List ℕ
+frame_lines [] = []
+frame_lines (f ∷ fs) = codes "frame " ++ hex f ++ codes "\n" ++ frame_lines fs
+
+abbrev pub sector_line : ℕ → List ℕ → List ℕ
+sector_line n bytes = codes "sector " ++ decimal n ++ codes " " ++ hex bytes ++ codes "\n"
+
+-- a line for each sector that isn't all zeros, rising
+abbrev pub sector_lines : ℕ → List (List ℕ) → List ℕ
+sector_lines n [] = []
+sector_lines n (s ∷ ss) = (if list_all (λ b. b == 0) s then [] else sector_line n s) ++ sector_lines (n + 1) ss
+
+-- the end parts: the sent frames, the console bytes, the disk
+abbrev pub end_text : List (List ℕ) → List ℕ → List (List ℕ) → List ℕ
+end_text sent console sectors =
+    codes "frames " ++ decimal (length sent) ++ codes "\n" ++ frame_lines sent
+    ++ codes "console " ++ hex console ++ codes "\n"
+    ++ codes "disk " ++ decimal (length sectors) ++ codes "\n" ++ sector_lines 0 sectors
+    ++ codes "end\n"
+
+abbrev pub end_parts : World → List ℕ
+end_parts w = end_text w.sent w.console w.disk.sectors
+
+-- the bytes that are written, the status, and the disk's last image
+pub record Report : Type 0 where
+  pub text : List ℕ
+  pub status : ℕ
+  pub image : List (List ℕ)
+
+abbrev pub before : List ℕ → Report → Report
+before text r = record r { text = text ++ r.text }
+
+-- a line of a script on the abstract devices, the raw machine and the driver's record, and then the rest: the reply is
+-- that of the abstract devices, with the operation placed where the trace has its marked access
+abbrev pub line_report : ℕ → ScriptLine → World → RawState → DriverRecord → (World → RawState → DriverRecord → Report) → Report
+line_report k (Happens e) w raw known rest = rest (happen w e) (raw_event raw e) known
+line_report k (Operates op events) w raw known rest =
+    let t = trace_of raw known op events in
+    let o = placed_line Mmio w op events t.place in
+    before (reply_line k o.reply t.place t.count) (rest o.world t.raw t.known)
+
+-- the report of a script after k lines
+abbrev pub report_from : Script → ℕ → World → RawState → DriverRecord → Report
+report_from Ends k w raw known = record { text = end_parts w; status = 0; image = w.disk.sectors }
+report_from BadLine k w raw known = record { text = codes "fault " ++ decimal (k + 1) ++ codes "\n"; status = 3; image = w.disk.sectors }
+report_from TooLong k w raw known = record { text = codes "too long\n"; status = 7; image = w.disk.sectors }
+report_from (Line line rest) k w raw known =
+    line_report (k + 1) line w raw known (λ w2 raw2 known2. report_from rest (k + 1) w2 raw2 known2)
+
+-- the report of a script over MMIO, from an input and a disk
+abbrev pub report_of : List ℕ → AbstractDisk → Report
+report_of input disk = report_from (script_of input) 0 (new_world disk) new_raw_state new_record

@@ -1,0 +1,159 @@
+//! Scripts over the memory forms.
+
+use crate::top;
+use std::alloc::{AllocError, Global};
+use std::test::Fail;
+use vt_outside::{MemDisk, MemSink, MemSource, NoWatch};
+use vt_types::{Bytes, Memory};
+
+/// The lines that bring the console up, with a queue of 8.
+const OPENING: &str =
+    "probe con\nreset con\nstatus con ack\nstatus con driver\naccept con 0000000100000000\nstatus con featok\nsetq con 1 8\nstatus con drvok\n";
+
+/// What they write.
+const OPENED: &str =
+    "1 id 3 p=0 n=4\n2 ok p=0 n=2\n3 status 01 p=0 n=2\n4 status 03 p=0 n=2\n5 ok p=0 n=4\n6 status 0b p=0 n=2\n7 ok p=0 n=12\n8 status 0f p=0 n=2\n";
+
+const END: &str = "frames 0\nconsole -\ndisk 2048\nend\n";
+
+fn list(alloc: Global, bytes: &[u8]) -> Result<Bytes, Memory> {
+    let mut all = Bytes::new(alloc);
+    all.extend(alloc, bytes)?;
+    Ok(all)
+}
+
+/// The status of a call, and whether what it wrote is this text. The first read, or the first write, fails where asked.
+fn answer(
+    alloc: Global,
+    words: &[&str],
+    script: &str,
+    fails: (&[u8], &[u8]),
+    text: &str,
+) -> Result<(u8, bool), AllocError> {
+    let mut all = Vec::new(alloc);
+    for word in words {
+        all.push(String::from_str(alloc, word)?)?;
+    }
+    let mut source = MemSource::new(list(alloc, script.as_bytes())?, list(alloc, fails.0)?);
+    let mut sink = MemSink::new(alloc, 1 << 20, list(alloc, fails.1)?)?;
+    let disk = MemDisk::new(alloc, 2048, false, Bytes::new(alloc))?;
+    let ended = top(alloc, &all, &mut source, &mut sink, disk, &mut NoWatch);
+    Ok((ended.status, sink.bytes() == text.as_bytes()))
+}
+
+fn run(alloc: Global, script: &str, text: &str) -> Result<(u8, bool), AllocError> {
+    answer(alloc, &["run", "mmio"], script, (&[], &[]), text)
+}
+
+fn joined(alloc: Global, parts: &[&str]) -> Result<String, AllocError> {
+    let mut all = String::new(alloc);
+    for part in parts {
+        all.push_str(part)?;
+    }
+    Ok(all)
+}
+
+/// A line of the opening with another size.
+fn with_size(alloc: Global, size: &str) -> Result<String, AllocError> {
+    let front =
+        "probe con\nreset con\nstatus con ack\nstatus con driver\naccept con 0000000100000000\nstatus con featok\nsetq con 1 ";
+    joined(alloc, &[front, size, "\nstatus con drvok\n"])
+}
+
+const ROUND: &str = "post con 1 7 r:68656c6c6f\nnotify con 1\nev serve con 1\n";
+
+#[test]
+fn five_bytes_over_mmio(rt: HostRuntime) -> Result<(), Fail> {
+    let script = joined(rt.alloc(), &[OPENING, ROUND, "reap con 1\n"])?;
+    let posted = "9 ok p=0 n=4\n10 ok p=0 n=1\n";
+    let end = "frames 0\nconsole 68656c6c6f\ndisk 2048\nend\n";
+    let text = joined(
+        rt.alloc(),
+        &[OPENED, posted, "12 used 7 0 - p=0 n=2\n", end],
+    )?;
+    assert_eq!(rt; run(rt.alloc(), &script, &text)?, (0, true));
+
+    let shorter = joined(rt.alloc(), &[OPENING, ROUND])?;
+    let text = joined(rt.alloc(), &[OPENED, posted, end])?;
+    assert_eq!(rt; run(rt.alloc(), &shorter, &text)?, (0, true));
+    Ok(())
+}
+
+#[test]
+fn ends_and_refusals(rt: HostRuntime) -> Result<(), Fail> {
+    assert_eq!(rt; run(rt.alloc(), "", END)?, (0, true));
+    let bad = "1 id 3 p=0 n=4\nfault 2\n";
+    assert_eq!(rt;
+        run(rt.alloc(), "probe con\nfoo\nreset con\n", bad)?,
+        (3, true)
+    );
+
+    let usage = "usage: vt run BUS [trace] [file NAME] | raw BUS [file NAME] | load BUS N\n";
+    assert_eq!(rt;
+        answer(rt.alloc(), &["run"], "", (&[], &[]), usage)?,
+        (2, true)
+    );
+    assert_eq!(rt;
+        answer(rt.alloc(), &["run", "isa"], "", (&[], &[]), usage)?,
+        (2, true)
+    );
+    assert_eq!(rt;
+        answer(rt.alloc(), &["run", "mmio", "-x"], "", (&[], &[]), usage)?,
+        (2, true)
+    );
+    assert_eq!(rt;
+        answer(rt.alloc(), &["run", "pci-intx"], "", (&[], &[]), usage)?,
+        (2, true)
+    );
+
+    assert_eq!(rt;
+        answer(rt.alloc(), &["run", "mmio"], "", (&[1], &[]), "")?,
+        (4, true)
+    );
+    assert_eq!(rt;
+        answer(rt.alloc(), &["run", "mmio"], "", (&[], &[1]), "")?,
+        (5, true)
+    );
+    Ok(())
+}
+
+#[test]
+fn sizes(rt: HostRuntime) -> Result<(), Fail> {
+    for size in ["1", "256"] {
+        let script = with_size(rt.alloc(), size)?;
+        let text = joined(rt.alloc(), &[OPENED, END])?;
+        assert_eq!(rt; run(rt.alloc(), &script, &text)?, (0, true));
+    }
+    let six =
+        "1 id 3 p=0 n=4\n2 ok p=0 n=2\n3 status 01 p=0 n=2\n4 status 03 p=0 n=2\n5 ok p=0 n=4\n6 status 0b p=0 n=2\nfault 7\n";
+    for size in ["3", "512", "0"] {
+        let script = with_size(rt.alloc(), size)?;
+        assert_eq!(rt; run(rt.alloc(), &script, six)?, (3, true));
+    }
+    Ok(())
+}
+
+#[test]
+fn two_hundred_rounds(rt: HostRuntime) -> Result<(), Fail> {
+    let mut script = with_size(rt.alloc(), "2")?;
+    let mut text = joined(rt.alloc(), &[OPENED])?;
+    let mut line = 8u32;
+    for _round in 0..200 {
+        script.push_str("post con 1 3 r:41\nnotify con 1\nev serve con 1\nreap con 1\n")?;
+        let posted = line.saturating_add(1);
+        let notified = line.saturating_add(2);
+        let reaped = line.saturating_add(4);
+        write!(
+            text,
+            "{posted} ok p=0 n=4\n{notified} ok p=0 n=1\n{reaped} used 3 0 - p=0 n=2\n"
+        )?;
+        line = reaped;
+    }
+    text.push_str("frames 0\nconsole ")?;
+    for _round in 0..200 {
+        text.push_str("41")?;
+    }
+    text.push_str("\ndisk 2048\nend\n")?;
+    assert_eq!(rt; run(rt.alloc(), &script, &text)?, (0, true));
+    Ok(())
+}

@@ -1,0 +1,180 @@
+//! The machine: guest memory and the console behind its MMIO page, one access or one event at a time.
+
+ghost use Rattle.std.specs.Prelude.{◌≡◌, ◌+◌, ◌≤◌, ◌^◌, nat_le, IfOk, OnOk, OnErr, [], false, length, if◌then◌else◌};
+ghost use Rattle.guest_mem.specs.Memory.{part};
+ghost use Rattle.vt_types.specs.declared.access.Answer.TheVariants.{Done, Got, Outside as PastTheEnd};
+ghost use Rattle.vt_types.specs.Program.{got};
+ghost use Rattle.script_run.specs.Machine.{is_got};
+ghost use Rattle.script_run.specs.RawServe.{raw_event};
+ghost use Rattle.script_run.specs.RawState.{MEMORY, new_raw_state};
+
+use crate::dev_core::{Console, serve_buffer};
+use crate::mmio_regs::Register;
+use dev_console::ConState;
+use guest_mem::{GuestMem, Outside};
+use std::alloc::Global;
+use std::marker::Model;
+use vt_types::{Access, Answer, Dev, Event, Memory, Place, Port, Room};
+
+#[cfg(test)]
+mod tests;
+
+/// The greatest number of bytes that one access gets.
+const MOST_GOT: usize = 8192;
+
+/// Guest memory of 2^28 bytes, the console behind its page, and how many accesses the operation under way made.
+#[derive(Drop)]
+pub struct Machine {
+    memory: GuestMem,
+    console: Console,
+    state: ConState,
+    count: u32,
+}
+
+impl Model for Machine {
+    ghost use Rattle.script_run.specs.Machine.{MachineView};
+
+    ghost Value = { MachineView };
+
+    ghost view = { λ m. record { raw = record { memory = m.memory; con = m.console; waiting = m.state.waiting; console = m.state.console }; count = m.count; spare = m.state.spare } };
+}
+
+/// How many bytes guest memory has.
+#[tactic(auto, unfolding(crate::specs::RawState::MEMORY))]
+fn memory_len() -> u64
+    ensures value { result ≡ MEMORY }
+    ensures most { result ≤ 2 ^ 28 }
+{
+    1 << 28
+}
+
+/// The answer to bytes that were put into memory, or that passed its end.
+fn done(put: Result<(), Outside>) -> Answer
+    ensures inside { OnOk put (result ≡ Done) }
+    ensures outside { OnErr put (result ≡ PastTheEnd) }
+{
+    match put {
+        Ok(()) => Answer::Done,
+        Err(Outside) => Answer::Outside,
+    }
+}
+
+/// Fills a room with bytes of memory. The room stays as it is where they pass its end.
+fn get(memory: &GuestMem, addr: u64, count: u16, room: &mut Room) -> Answer
+    requires { count ≤ 8192 }
+    ensures answer { result ≡ (if nat_le (addr + count) (length memory.now) then Got else PastTheEnd) }
+    ensures bytes { got result room.new.items ≡ (if nat_le (addr + count) (length memory.now) then part memory.now addr count else []) }
+    ensures leaves { is_got result ≡ false → room.new.items ≡ room.old.items }
+{
+    let mut bytes = [0u8; MOST_GOT];
+    let bytes = &mut bytes[..count as usize];
+    match memory.read(addr, bytes) {
+        Ok(()) => {
+            room.clear();
+            let _fits = room.try_extend_from_slice(bytes);
+            Answer::Got
+        }
+        Err(Outside) => Answer::Outside,
+    }
+}
+
+impl Machine {
+    /// A machine with zeros in memory, and a console that was reset.
+    pub fn new(alloc: Global) -> Result<Machine, Memory>
+        ensures raw { IfOk result (λ m. m.raw ≡ new_raw_state) }
+        ensures count { IfOk result (λ m. m.count ≡ 0) }
+    {
+        Ok(Machine {
+            memory: GuestMem::new(alloc, memory_len())?,
+            console: Console::new(),
+            state: ConState::new(alloc)?,
+            count: 0,
+        })
+    }
+
+    /// Makes room for what one operation and its events may add to the console's bytes.
+    pub fn reserve(&mut self, alloc: Global) -> Result<(), Memory>
+        ensures raw { self.new.raw ≡ self.old.raw }
+        ensures count { self.new.count ≡ self.old.count }
+        ensures spare { self.old.spare ≤ self.new.spare }
+        ensures ok { OnOk result (1056768 ≤ self.new.spare) }
+    {
+        self.state.reserve(alloc)
+    }
+
+    /// An operation begins: no access was made yet.
+    pub fn begin(&mut self)
+        ensures { self.new ≡ record self.old { count = 0 } }
+    {
+        self.count = 0;
+    }
+
+    /// Where an operation stands that ends now. No event happens during one.
+    pub fn finish(&self) -> Place
+        ensures events { result.p ≡ 0 }
+        ensures accesses { result.n ≡ self.now.count }
+    {
+        Place {
+            p: 0,
+            n: self.count,
+        }
+    }
+
+    /// An event happens. It adds at most 8,192 bytes to the console's.
+    pub fn event(&mut self, e: &Event)
+        requires { 8192 ≤ self.old.spare }
+        ensures raw { self.new.raw ≡ raw_event self.old.raw e.now }
+        ensures count { self.new.count ≡ self.old.count }
+        ensures spare { self.old.spare ≤ self.new.spare + 8192 }
+    {
+        match e {
+            Event::Serve {
+                dev: Dev::Con,
+                queue,
+            } => { serve_buffer(&mut self.memory, &mut self.console, &mut self.state, *queue) }
+            Event::Key(bytes) => self.state.key(bytes.as_slice()),
+            _ => {}
+        }
+    }
+
+    /// The bytes that the console was given.
+    pub fn console(&self) -> &[u8]
+        ensures { result.now ≡ self.now.raw.console }
+    {
+        self.state.console()
+    }
+}
+
+impl Port for Machine {
+    ghost use Rattle.std.specs.Prelude.{◌≡◌, ◌-◌, ◌^◌};
+    ghost use Rattle.script_run.specs.Machine.{MachineStep};
+
+    ghost step = { MachineStep };
+
+    ghost marking = { λ m m2. m2 ≡ m };
+
+    ghost credit = { λ _. 2 ^ 32 - 1 };
+
+    fn access(&mut self, a: &Access<'_>, room: &mut Room) -> Answer {
+        self.count = self.count.saturating_add(1);
+        match *a {
+            Access::Load { addr, width } => {
+                Answer::Word(self.console.load(Register::reached_by(addr, width)) as u64)
+            }
+            Access::Store { addr, width, value } => {
+                self.console.store(Register::reached_by(addr, width), value);
+                Answer::Done
+            }
+            Access::Put { addr, bytes } => done(self.memory.write(addr, bytes)),
+            Access::Get { addr, count } => get(&self.memory, addr, count, room),
+            Access::Zero { addr, count } => done(self.memory.zero(addr, count)),
+            Access::Swap { addr, value } => match self.memory.swap64(addr, value) {
+                Ok(before) => Answer::Word(before),
+                Err(Outside) => Answer::Outside,
+            },
+            _ => Answer::NoSuch,
+        }
+    }
+
+    fn mark(&mut self) {}
+}

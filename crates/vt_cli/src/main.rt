@@ -1,0 +1,42 @@
+//! The program `vt`: does what the words of its command line say, over standard input, standard output and a disk in
+//! memory.
+#![tactic(auto)]
+
+use script_run::top;
+use std::env;
+use std::process::ExitCode;
+use vt_outside::{MemDisk, NoWatch, StdSink, StdSource};
+use vt_types::Bytes;
+
+/// How many sectors of zeros the disk has.
+const SECTORS: u32 = 2048;
+
+/// The status where there is no memory for the words or the disk.
+const NO_MEMORY: u8 = 6;
+
+fn main(rt: HostRuntime) -> ExitCode {
+    let mut words = Vec::new(rt.alloc());
+    let Ok(args) = env::args(&rt) else {
+        return ExitCode::from(NO_MEMORY);
+    };
+    for word in args.skip(1) {
+        if words.push(word).is_err() {
+            return ExitCode::from(NO_MEMORY);
+        }
+    }
+    let fails = Bytes::new(rt.alloc());
+    let Ok(disk) = MemDisk::new(rt.alloc(), SECTORS, false, fails) else {
+        return ExitCode::from(NO_MEMORY);
+    };
+    let mut source = StdSource::new(rt.stdin());
+    let mut sink = StdSink::new(rt.stdout());
+    let ended = top(
+        rt.alloc(),
+        &words,
+        &mut source,
+        &mut sink,
+        disk,
+        &mut NoWatch,
+    );
+    ExitCode::from(ended.status)
+}
