@@ -45,18 +45,18 @@ def measure(command, path):
     return seconds, usage.ru_maxrss
 
 
-def newest_program():
-    """The newest executable that was built for vt_cli."""
-    folder = os.path.join("crates", "vt_cli", "out")
+def newest_program(crate):
+    """The newest executable that was built for a crate, by the crate's folder."""
+    folder = os.path.join(crate, "out")
     found = [os.path.join(folder, name) for name in os.listdir(folder)] if os.path.isdir(folder) else []
     programs = [path for path in found if os.path.isfile(path) and os.access(path, os.X_OK)]
     if not programs:
-        sys.exit("no program in crates/vt_cli/out: build it by `rt run` there")
+        sys.exit(f"no program in {folder}: build it by `rt run` in {crate}")
     return max(programs, key=os.path.getmtime)
 
 
 def main():
-    program = sys.argv[1] if len(sys.argv) > 1 else newest_program()
+    program = sys.argv[1] if len(sys.argv) > 1 else newest_program(os.path.join("crates", "vt_cli"))
     print("| Rounds | Input bytes | vt seconds | vt peak MiB | cat seconds |")
     print("|---|---|---|---|---|")
     for rounds in (1, 1000, 50000):

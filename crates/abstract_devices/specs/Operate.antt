@@ -1,8 +1,8 @@
-use Rattle.std.specs.Prelude.{ℕ, ◌+◌, ◌-◌, ◌*◌, ◌/◌, ◌==◌, List, [], ◌∷◌, ◌++◌, take, drop, length, sum, replicate, Bool, true, false, Option, Some, None, if◌then◌else◌}
+use Rattle.std.specs.Prelude.{ℕ, List, [], ◌∷◌, ◌++◌, take, drop, length, sum, replicate, true, false, Option, Some, None, if◌then◌else◌}
 use Rattle.vt_types.specs.Device.{device_id, queue_count}
 use Rattle.vt_types.specs.declared.device.Dev.{Dev}
 use Rattle.vt_types.specs.declared.device.BusKind.{BusKind}
-use Rattle.vt_types.specs.declared.device.BusKind.TheVariants.{Mmio, PciIntx, PciMsix, CcwClassic, CcwAdapter}
+use Rattle.vt_types.specs.declared.device.BusKind.TheVariants.{Mmio, PciIntx}
 use Rattle.vt_types.specs.declared.operation.Event.{Event}
 use Rattle.vt_types.specs.declared.operation.Event.TheVariants as event
 use Rattle.vt_types.specs.declared.operation.EventAt.{EventAt}
@@ -11,9 +11,9 @@ use Rattle.vt_types.specs.declared.operation.Step.TheVariants as step
 use Rattle.vt_types.specs.Operation.{Operation, PostedBuffer, Probe, Reset, Features, GetStatus, Accept, SetStatus, SetQueue, Post, Notify, Reap, Arm, Disarm, ReadConfig, WriteConfig, IrqQueues, IrqConfig}
 use Rattle.vt_types.specs.Reply.{ReplyValue}
 use Rattle.vt_types.specs.Reply as reply
-use Rattle.dev_status.specs.Status.{StatusState, write_of, has_bits}
+use Rattle.dev_status.specs.Status.{StatusState, EVENT_IDX, write_of, has_bits}
 use Rattle.dev_console.specs.Console.{with_input}
-use Rattle.abstract_devices.specs.World.{World, AbstractDevice, AbstractQueue, Buffer, UsedBuffer, SignalMode, Always, Never, First, device, with_device, queue, with_queue, offered, status_state}
+use Rattle.abstract_devices.specs.World.{World, AbstractDevice, AbstractQueue, Buffer, UsedBuffer, Always, Never, First, device, with_device, queue, with_queue, offered, status_state}
 use Rattle.abstract_devices.specs.Serve.{serve}
 
 -- what a driver writes for a step of the bring-up: the bits of this step and of those before it (VIRTIO 1.2, 3.1.1)
@@ -44,15 +44,12 @@ reset_device dev d =
       accepted = 0;
       queues = replicate (queue_count dev) None;
       signalled = [];
-      config = false;
+      config_changed = false;
     }
 
--- the status rule
+-- the device with the status and the accepted features of its status machine
 abbrev pub with_status : AbstractDevice → StatusState → AbstractDevice
 with_status d s = record d { status = s.status; accepted = s.accepted }
-
-abbrev pub EVENT_IDX : ℕ
-EVENT_IDX = 0x20000000
 
 -- a queue that is set: with EVENT_IDX its first used buffer is signalled, else each
 abbrev pub new_queue : AbstractDevice → ℕ → AbstractQueue
@@ -69,16 +66,18 @@ abbrev pub change_queue : AbstractDevice → ℕ → (AbstractQueue → Abstract
 change_queue d n f None = d
 change_queue d n f (Some q) = with_queue d n (f q)
 
+-- a change of a queue of a device of the world, with a good reply
 abbrev pub on_queue : World → Dev → ℕ → (AbstractQueue → AbstractQueue) → Outcome
 on_queue w dev n f =
     record { world = with_device w dev (change_queue (device w dev) n f (queue (device w dev) n)); reply = reply.Good }
 
--- the front used buffer is reaped
+-- the front used buffer is reaped, where there is one
 abbrev pub reap_front : World → Dev → ℕ → AbstractQueue → List UsedBuffer → Outcome
 reap_front w dev n q [] = record { world = w; reply = reply.Nothing }
 reap_front w dev n q (u ∷ us) =
     record { world = with_device w dev (with_queue (device w dev) n (record q { used = us })); reply = reply.Used u.tag (length u.written) u.written }
 
+-- nothing is reaped of a queue that is not set
 abbrev pub reap_queue : World → Dev → ℕ → Option AbstractQueue → Outcome
 reap_queue w dev n None = record { world = w; reply = reply.Nothing }
 reap_queue w dev n (Some q) = reap_front w dev n q q.used
@@ -87,15 +86,15 @@ reap_queue w dev n (Some q) = reap_front w dev n q q.used
 abbrev pub step_outcome : World → Dev → AbstractDevice → Outcome
 step_outcome w dev d = record { world = with_device w dev d; reply = reply.Status d.status }
 
--- an operation of the driver, on a bus
+-- an operation of the driver, on a bus; no script reads or writes a configuration today
 abbrev pub operate : BusKind → World → Operation → Outcome
 operate bus w (Probe dev) = record { world = with_device w dev (record (device w dev) { probed = true }); reply = reply.Id (device_id dev) }
 operate bus w (Reset dev) = record { world = with_device w dev (reset_device dev (device w dev)); reply = reply.Good }
-operate bus w (Features dev) = record { world = w; reply = reply.Features (offered dev) }
+operate bus w (Features dev) = record { world = w; reply = reply.Features (offered w dev) }
 operate bus w (GetStatus dev) = record { world = w; reply = reply.Status (device w dev).status }
 operate bus w (Accept dev features) = record { world = with_device w dev (record (device w dev) { accepted = features }); reply = reply.Good }
 operate bus w (SetStatus dev s) =
-    step_outcome w dev (with_status (device w dev) (write_of (status_of_step s) (status_state dev (device w dev))))
+    step_outcome w dev (with_status (device w dev) (write_of (status_of_step s) (status_state w dev)))
 operate bus w (SetQueue dev n size) =
     record { world = with_device w dev (with_queue (device w dev) n (new_queue (device w dev) size)); reply = reply.Good }
 operate bus w (Post dev n b) = on_queue w dev n (λ q. record q { available = q.available ++ buffer_of b ∷ [] })
@@ -106,8 +105,7 @@ operate bus w (Disarm dev n) = on_queue w dev n (λ q. record q { mode = Never }
 operate bus w (IrqQueues dev) =
     record { world = with_device w dev (record (device w dev) { signalled = [] }); reply = merge bus (device w dev).signalled }
 operate bus w (IrqConfig dev) =
-    record { world = with_device w dev (record (device w dev) { config = false }); reply = reply.Config (device w dev).config }
--- no script has these today
+    record { world = with_device w dev (record (device w dev) { config_changed = false }); reply = reply.Config (device w dev).config_changed }
 operate bus w (ReadConfig dev field) = record { world = w; reply = reply.Good }
 operate bus w (WriteConfig dev field value) = record { world = w; reply = reply.Good }
 
@@ -117,6 +115,7 @@ happen w (event.Serve dev n) = serve w dev n
 happen w (event.Key bytes) = record w { waiting = with_input w.waiting bytes }
 happen w _ = w
 
+-- events one after the other
 abbrev pub happen_all : World → List EventAt → World
 happen_all w [] = w
 happen_all w (e ∷ es) = happen_all (happen w e.event) es

@@ -1,9 +1,9 @@
-use Rattle.std.specs.Prelude.{ℕ, ◌==◌, ◌&&◌, nat_lt, List, [], ◌∷◌, ◌++◌, Bool, true, false, Option, Some, None, if◌then◌else◌}
+use Rattle.std.specs.Prelude.{ℕ, ◌==◌, ◌&&◌, nat_lt, List, [], ◌∷◌, ◌++◌, length, Bool, true, false, Option, Some, None, if◌then◌else◌}
 use Rattle.vt_types.specs.declared.device.Dev.{Dev}
 use Rattle.vt_types.specs.declared.device.Dev.TheVariants.{Con}
 use Rattle.dev_status.specs.Status.{has_bits, DRIVER_OK}
 use Rattle.dev_console.specs.Console.{ConsoleAnswer, console_answer}
-use Rattle.abstract_devices.specs.World.{World, AbstractDevice, AbstractQueue, Buffer, UsedBuffer, SignalMode, Always, Never, First, device, with_device, queue, with_queue}
+use Rattle.abstract_devices.specs.World.{World, AbstractDevice, AbstractQueue, Buffer, UsedBuffer, SignalMode, Always, Never, First, queue, with_queue}
 
 -- whether a used buffer is signalled, by the mode and the buffers that were used before
 abbrev pub signals : SignalMode → List UsedBuffer → Bool
@@ -17,13 +17,9 @@ abbrev pub with_number : ℕ → List ℕ → List ℕ
 with_number n [] = n ∷ []
 with_number n (m ∷ ms) = if n == m then m ∷ ms else (if nat_lt n m then n ∷ m ∷ ms else m ∷ with_number n ms)
 
-abbrev pub has_some : List ℕ → Bool
-has_some [] = false
-has_some (b ∷ bs) = true
-
 -- the receive queue of the console is served only where input waits
 abbrev pub is_served : World → ℕ → Bool
-is_served w n = if n == 0 then has_some w.waiting else true
+is_served w n = if n == 0 then nat_lt 0 (length w.waiting) else true
 
 -- the front buffer moves to the used ones, with these bytes written
 abbrev pub use_front : AbstractDevice → ℕ → AbstractQueue → Buffer → List Buffer → List ℕ → AbstractDevice

@@ -1,7 +1,9 @@
-use Rattle.std.specs.Prelude.{ℕ, ◌==◌, List, [], ◌∷◌, zero, suc, Bool, true, false, Option, Some, None, replicate, slice_get, slice_set}
+use Rattle.std.specs.Prelude.{ℕ, List, [], Bool, false, Option, Some, None, replicate, slice_get, slice_set}
+use Rattle.std.specs.Option.{option_flatten}
 use Rattle.vt_types.specs.declared.device.Dev.{Dev}
 use Rattle.vt_types.specs.declared.device.Dev.TheVariants.{Blk, Net, Con}
 use Rattle.vt_types.specs.Device.{queue_count}
+use Rattle.dev_status.specs.Features.{features_of}
 use Rattle.dev_status.specs.Status.{StatusState}
 
 -- a buffer that the driver made available: its tag, the readable bytes, the bytes of its writable room, and its slots
@@ -41,7 +43,7 @@ pub record AbstractDevice : Type 0 where
   pub accepted : ℕ
   pub queues : List (Option AbstractQueue)
   pub signalled : List ℕ
-  pub config : Bool
+  pub config_changed : Bool
 
 -- the disk: its sectors, and whether it is read-only
 pub record AbstractDisk : Type 0 where
@@ -58,12 +60,11 @@ pub record World : Type 0 where
   pub waiting : List ℕ
   pub console : List ℕ
 
--- the features that a device offers: for the console SIZE and EMERG_WRITE, and INDIRECT_DESC, EVENT_IDX and VERSION_1
--- (VIRTIO 1.2, 5.3.3 and 6)
-abbrev pub offered : Dev → ℕ
-offered Con = 0x130000005
-offered _ = 0x130000000
+-- the features that a device offers
+abbrev pub offered : World → Dev → ℕ
+offered w dev = features_of dev w.disk.read_only
 
+-- one of the three devices, and the world with another in its place
 abbrev pub device : World → Dev → AbstractDevice
 device w Blk = w.blk
 device w Net = w.net
@@ -75,17 +76,14 @@ with_device w Net d = record w { net = d }
 with_device w Con d = record w { con = d }
 
 -- the status machine of a device
-abbrev pub status_state : Dev → AbstractDevice → StatusState
-status_state dev d = record { offered = offered dev; accepted = d.accepted; status = d.status }
+abbrev pub status_state : World → Dev → StatusState
+status_state w dev = record { offered = offered w dev; accepted = (device w dev).accepted; status = (device w dev).status }
 
-abbrev pub join : {X : Type 0} → Option (Option X) → Option X
-join None = None
-join (Some x) = x
-
--- a queue that is set
+-- a queue, where the device has it and it is set
 abbrev pub queue : AbstractDevice → ℕ → Option AbstractQueue
-queue d n = join (slice_get d.queues n)
+queue d n = option_flatten (slice_get d.queues n)
 
+-- the device with a queue that is set
 abbrev pub with_queue : AbstractDevice → ℕ → AbstractQueue → AbstractDevice
 with_queue d n q = record d { queues = slice_set d.queues n (Some q) }
 
@@ -99,7 +97,7 @@ new_device dev =
       accepted = 0;
       queues = replicate (queue_count dev) None;
       signalled = [];
-      config = false;
+      config_changed = false;
     }
 
 -- the starting world, with this disk

@@ -12,6 +12,7 @@ pub record StatusState : Type 0 where
 abbrev pub has_bits : ℕ → ℕ → Bool
 has_bits n bits = bit_and n bits == bits
 
+-- the bits of the status (VIRTIO 1.2, 2.1)
 abbrev pub ACKNOWLEDGE : ℕ
 ACKNOWLEDGE = 1
 
@@ -30,6 +31,13 @@ DEVICE_NEEDS_RESET = 64
 abbrev pub FAILED : ℕ
 FAILED = 128
 
+-- the features that every device may offer (VIRTIO 1.2, 6)
+abbrev pub INDIRECT_DESC : ℕ
+INDIRECT_DESC = 2 ^ 28
+
+abbrev pub EVENT_IDX : ℕ
+EVENT_IDX = 2 ^ 29
+
 abbrev pub VERSION_1 : ℕ
 VERSION_1 = 2 ^ 32
 
@@ -45,7 +53,7 @@ add_bit status v may bit = if has_bits v bit && may then bit_or status bit else 
 -- stands; no bit is cleared, and DEVICE_NEEDS_RESET is never added (which set is acceptable is our own)
 abbrev pub status_with : ℕ → StatusState → ℕ
 status_with v s =
-    let plain = bit_or s.status (bit_and v 131) in
+    let plain = bit_or s.status (bit_and v (ACKNOWLEDGE + DRIVER + FAILED)) in
     let ready = add_bit plain v (is_acceptable s) FEATURES_OK in
     add_bit ready v (has_bits ready FEATURES_OK) DRIVER_OK
 

@@ -100,7 +100,7 @@ impl StatusMachine {
     }
 
     /// Writes the status byte: 0 resets the device, and any other number adds bits (VIRTIO 1.2, 2.1.2). Answers false
-    /// where FEATURES_OK was asked for and does not stand.
+    /// exactly where FEATURES_OK was asked for and does not stand afterwards.
     pub fn write(&mut self, v: u8) -> bool
         ensures state { self.new ≡ write_of v self.old }
         ensures answer { result ≡ not (has_bits v FEATURES_OK && not (has_bits self.new.status FEATURES_OK)) }

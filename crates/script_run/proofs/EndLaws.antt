@@ -11,9 +11,9 @@ use Rattle.vt_outside.proofs.SinkLaws.{adds_none}
 use Rattle.vt_outside.proofs.TextLaws.{prefix_append, prefix_behind, prefix_none, prefix_then}
 use Rattle.script_run.specs.declared.stop.Stop.{Stop}
 use Rattle.script_run.specs.declared.stop.Stop.TheVariants.{Memory}
-use Rattle.script_run.specs.EndParts.{console_text, disk_line, disk_text, line_of_sector, lines_below, sector_text, SendsImage}
-use Rattle.script_run.specs.Output.{Sends, SendsEnd}
-use Rattle.script_run.specs.Report.{end_text, hex, sector_lines}
+use Rattle.script_run.specs.EndParts.{console_text, line_of_sector, lines_below}
+use Rattle.script_run.specs.Output.{Sends, SendsImage}
+use Rattle.script_run.specs.Report.{disk_line, disk_text, end_text, hex, sector_lines, sector_text}
 use Rattle.script_run.proofs.SendLaws.{part_as, same_none}
 
 -- the lines of the first n sectors, and that of the next one
@@ -102,33 +102,17 @@ disk_ended n image e = ap (λ z. z ++ codes "end\n") (disk_listed n image e)
 pub disk_told : (n : ℕ) (image : List (List ℕ)) → length image ≡ n → IsPrefixOf (disk_line n ++ lines_below n image) (disk_text image)
 disk_told n image e = (codes "end\n", disk_ended n image e)
 
-joined : (a h b d c m s e : List ℕ) → a ++ h ++ b ++ (d ++ c ++ m ++ s ++ e) ≡ a ++ h ++ b ++ d ++ c ++ m ++ s ++ e
-joined a h b d c m s e = simp append_assoc
-
 -- the end parts are those of the console and those of the disk
 pub end_joined : (console : List ℕ) (image : List (List ℕ)) → console_text console ++ disk_text image ≡ end_text [] console image
 end_joined console image =
     let e : decimal 0 ≡ codes "0" = decimal_digit 0 (omega arith) in
-    rw e
-    (joined (codes "frames 0\nconsole ") (hex console) (codes "\n") (codes "disk ") (decimal (length image)) (codes "\n") (sector_lines 0 image) (codes "end\n"))
+    rw e refl
 
 pub end_opened : (console : List ℕ) (image : List (List ℕ)) → IsPrefixOf (console_text console) (end_text [] console image)
 end_opened console image = (disk_text image, end_joined console image)
 
--- what was sent of the end parts
-pub end_sent : (console : List ℕ) (d d2 : DiskView) (k k2 : SinkView) (r : Result Unit Stop) → SendsImage (end_text [] console) d d2 k k2 r → SendsEnd console d d2 k k2 r
-end_sent console d d2 k k2 r h = record {
-  later = h.later;
-  cause = h.cause;
-  disk_later = h.disk_later;
-  disk = h.disk;
-  sent = h.sent;
-  adds = h.adds;
-  part = h.part;
-}
-
 -- for want of memory nothing was sent
-pub end_none : (console : List ℕ) (d : DiskView) (k : SinkView) → SendsEnd console d d k k (Err Memory)
+pub end_none : (console : List ℕ) (d : DiskView) (k : SinkView) → SendsImage (end_text [] console) d d k k (Err Memory)
 end_none console d k = record {
   later = omega arith;
   cause = tt;

@@ -9,13 +9,13 @@ use Rattle.std.proofs.lemmas.List.{drop_more, drop_all}
 use Rattle.hex.specs.Hex.{decode_of, decode_sized}
 use Rattle.hex.specs.declared.error.FromHexError.{FromHexError}
 use Rattle.hex.proofs.HexLemmas.{decode_of-ok, decode_sized-twice}
-use Rattle.script_run.specs.Script.{is_digit, decimal_value, short, hex_of, hex_bytes, number_of_bytes, features_in, piece_if_fits, piece_in}
+use Rattle.script_run.specs.Script.{is_digit, decimal_value, number16, hex_of, hex_bytes, number_of_bytes, features_in, piece_if_fits, piece_in}
 
 -- the number of digits, after a number of those before them
 abbrev pub number_from : ℕ → List ℕ → Option ℕ
 number_from n digits = if list_all is_digit digits && nat_le (decimal_value n digits) 65535 then Some (decimal_value n digits) else None
 
-pub number_from_start : (word : List ℕ) → 1 ≤ length word → length word ≤ 20 → number_from 0 word ≡ short word
+pub number_from_start : (word : List ℕ) → 1 ≤ length word → length word ≤ 20 → number_from 0 word ≡ number16 word
 number_from_start word some few = grind (arith, nat_tests)
 
 -- a number only grows by its digits

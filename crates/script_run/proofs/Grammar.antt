@@ -10,7 +10,7 @@ use Rattle.vt_types.specs.declared.operation.EventAt.{EventAt}
 use Rattle.vt_types.specs.declared.operation.Step.TheVariants as step
 use Rattle.vt_types.specs.Operation.{PostedBuffer, Probe, Reset, Accept, SetStatus, SetQueue, Post, Notify, Reap}
 use Rattle.script_run.specs.MmioTable.{is_queue_size}
-use Rattle.script_run.specs.Script.{ScriptLine, Operates, Happens, operates, step_in, accept_line, setq_line, post_line, notify_line, reap_line, serve_line, console_line, event_line, operation_line, spelled, is_expected, if_expected, line_at, words_of, short, is_digit, decimal_value, piece_in, piece_if_fits, hex_bytes, LONGEST_LINE}
+use Rattle.script_run.specs.Script.{ScriptLine, Operates, Happens, operates, step_in, accept_line, setq_line, post_line, notify_line, reap_line, serve_line, line_of_console, event_line, operation_line, spelled, is_expected, if_expected, line_at, words_of, number16, is_digit, decimal_value, piece_in, piece_if_fits, hex_bytes, LONGEST_LINE}
 
 -- a buffer of one readable piece, as a line posts it
 pub record IsOneReadable (b : PostedBuffer) : Type 0 where
@@ -104,7 +104,7 @@ short_if true n most fits = bounded (nat_le n most) refl
     bounded false e = tt
 short_if false n most fits = tt
 
-short_fits : (word : List ℕ) → FitsShort (short word)
+short_fits : (word : List ℕ) → FitsShort (number16 word)
 short_fits word =
     short_if (nat_le 1 (length word) && nat_le (length word) 20 && list_all is_digit word) (decimal_value 0 word) 65535 (lit≤ tt)
 
@@ -130,10 +130,10 @@ probe_plain = record { plain = refl }
 reset_plain : IfPlain (operates (Reset Con))
 reset_plain = record { plain = refl }
 
-post_words_plain : (a b c : List ℕ) → IfPlain (post_line (short a) (short b) (piece_in c))
-post_words_plain a b c = post_plain (short a) (short b) (piece_in c) (short_fits b) (piece_fits c)
+post_words_plain : (a b c : List ℕ) → IfPlain (post_line (number16 a) (number16 b) (piece_in c))
+post_words_plain a b c = post_plain (number16 a) (number16 b) (piece_in c) (short_fits b) (piece_fits c)
 
-console_plain : (name : List ℕ) (words : List (List ℕ)) → IfPlain (console_line name words)
+console_plain : (name : List ℕ) (words : List (List ℕ)) → IfPlain (line_of_console name words)
 console_plain name [] = search (either, no_line, probe_plain, reset_plain)
 console_plain name (a ∷ []) = search (either, no_line, step_plain, accept_plain, notify_plain, reap_plain)
 console_plain name (a ∷ b ∷ []) = search (either, no_line, setq_plain)

@@ -1,4 +1,3 @@
-pub mod DescriptorLaw
 pub mod DiskLaws
 pub mod DriverCalls
 pub mod DriverEnds

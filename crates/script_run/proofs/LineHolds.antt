@@ -14,6 +14,6 @@ use Rattle.script_run.proofs.Stands.{Stands}
 abbrev pub LineHolds : ℕ → ScriptLine → World → RawState → DriverRecord → Type 0
 LineHolds place (Happens e) w raw known = Stands (happen w e) (raw_event raw e) known (next_place place)
 LineHolds place (Operates op events) w raw known =
-    let t = trace_of raw known op events in
+    let t = trace_of Mmio raw known op events in
     let o = placed_line Mmio w op events t.place in
     Stands o.world t.raw t.known (next_place place) × (o.reply ≡ t.reply) × (t.place ≡ 0) × (t.count ≤ 12) × (events ≡ [])

@@ -8,7 +8,7 @@ use Rattle.vt_types.specs.Operation.{Operation, Probe, Reset, Accept, SetStatus,
 use Rattle.abstract_devices.specs.World.{World, AbstractDisk, new_world}
 use Rattle.script_run.specs.Lowering.{DriverRecord, new_record}
 use Rattle.script_run.specs.MmioTable.{is_queue_size}
-use Rattle.script_run.specs.RawState.{RawState, new_raw_state, MEMORY}
+use Rattle.script_run.specs.RawState.{RawState, new_raw_state, MEMORY_LEN}
 use Rattle.script_run.specs.Script.{ScriptLine, Operates, line_at}
 use Rattle.script_run.proofs.Grammar.{Expected, ExpectProbe, ExpectReset, ExpectAcknowledge, ExpectDriver, ExpectAccept, ExpectFeaturesOk, ExpectQueue, ExpectDriverOk, ExpectPost, ExpectNotify, ExpectServe, ExpectReap, IsPlain, line_is}
 use Rattle.script_run.proofs.LineHolds.{LineHolds}
@@ -19,8 +19,8 @@ use Rattle.script_run.proofs.RoundLines.{post_line_holds, notify_line_holds, ser
 use Rattle.script_run.proofs.Sizes.{size_bounds}
 use Rattle.script_run.proofs.Stands.{Stands}
 
-memory_fits : length {A = ℕ} (replicate MEMORY 0) ≡ 2 ^ 28
-unfolding MEMORY
+memory_fits : length {A = ℕ} (replicate MEMORY_LEN 0) ≡ 2 ^ 28
+unfolding MEMORY_LEN
 memory_fits = length-replicate {A = ℕ} (2 ^ 28) 0
 
 -- the two halves stand to each other at the start

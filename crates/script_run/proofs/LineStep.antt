@@ -20,7 +20,7 @@ pub record Steps (k : ℕ) (place : ℕ) (line : ScriptLine) (w : World) (raw : 
   pub world : World
   pub stands : Stands world raw2 known2 (next_place place)
   pub disk : world.disk ≡ w.disk
-  pub report : (rest : World → RawState → DriverRecord → Report) → line_report k line w raw known rest ≡ before added (rest world raw2 known2)
+  pub report : (rest : World → RawState → DriverRecord → Report) → line_report Mmio k line w raw known rest ≡ before added (rest world raw2 known2)
 
 event_steps : (k place : ℕ) (e : Event) (w : World) (raw : RawState) (known : DriverRecord) (raw2 : RawState) (known2 : DriverRecord) (added : List ℕ)
     → LineHolds place (Happens e) w raw known → RunsEvent e raw known raw2 known2 added → Steps k place (Happens e) w raw known raw2 known2 added
@@ -43,7 +43,7 @@ operation_steps : (k place : ℕ) (op : Operation) (events : List EventAt) (w : 
     → events ≡ [] → LineHolds place (Operates op []) w raw known → RunsOperation k op raw known raw2 known2 added
     → Steps k place (Operates op events) w raw known raw2 known2 added
 operation_steps k place op events w raw known raw2 known2 added none (stands, same, first, few, nothing) ran =
-    let t = trace_of raw known op [] in
+    let t = trace_of Mmio raw known op [] in
     subst (λ es. Steps k place (Operates op es) w raw known raw2 known2 added) (sym none) (record {
       world = (placed_line Mmio w op [] t.place).world;
       stands = rw (ran.leaves, ran.records) stands;

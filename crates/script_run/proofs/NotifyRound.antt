@@ -1,15 +1,16 @@
 -- A notify of the transmit queue kicks it, in both halves.
 use Rattle.std.proofs.Common.{◌≡◌, ◌^◌, [], Bool, true, Some, refl, ◌∙◌, ap, arith}
-use Rattle.std.specs.Prelude.{slice_get, slice_set, if◌then◌else◌}
+use Rattle.std.specs.Prelude.{is_some, slice_get, slice_set, if◌then◌else◌}
+use Rattle.std.specs.Option.{option_flatten}
 use Rattle.vt_types.specs.declared.device.BusKind.TheVariants.{Mmio}
 use Rattle.vt_types.specs.declared.device.Dev.TheVariants.{Con}
 use Rattle.vt_types.specs.Operation.{Notify}
 use Rattle.vt_types.specs.Program.{Mark, End}
 use Rattle.vt_types.specs.Reply as reply
-use Rattle.abstract_devices.specs.World.{World, AbstractQueue, Buffer, with_queue, join}
+use Rattle.abstract_devices.specs.World.{World, AbstractQueue, Buffer, with_queue}
 use Rattle.abstract_devices.specs.Operate.{placed_line, change_queue}
 use Rattle.script_run.specs.Lowering.{DriverRecord}
-use Rattle.script_run.specs.MmioTable.{change_at, kicked, is_ready}
+use Rattle.script_run.specs.MmioTable.{change_at, kicked}
 use Rattle.script_run.specs.RawState.{RawState, RawQueue, RawDevice}
 use Rattle.script_run.specs.Trace.{trace_of}
 use Rattle.script_run.proofs.Stands.{Running, DevicePart, OneQueue, Posted}
@@ -34,18 +35,18 @@ module _ (kick : Bool) (b : Buffer) (w : World) (raw : RawState) (known : Driver
   world_after = record w { con = with_queue w.con 1 queue_after }
 
   kicked_is : kicked raw_queue ≡ raw_queue_after
-  kicked_is = ap (λ r. if is_ready r then raw_queue_after else raw_queue) queues.set
+  kicked_is = ap (λ r. if is_some r then raw_queue_after else raw_queue) queues.set
 
   con_is : change_at raw.con 1 kicked (slice_get raw.con.queues 1) ≡ raw_after.con
   con_is =
       ap (λ qs. change_at raw.con 1 kicked (slice_get qs 1)) queues.raw_queues
       ∙ ap (λ q. record raw.con { queues = slice_set raw.con.queues 1 q }) kicked_is
 
-  tells_notify : told (trace_of raw known (Notify Con 1) []) ≡ record { reply = reply.Good; known = known; raw = raw_after; count = 1; place = 0 }
+  tells_notify : told (trace_of Mmio raw known (Notify Con 1) []) ≡ record { reply = reply.Good; known = known; raw = raw_after; count = 1; place = 0 }
   tells_notify = ap (λ (d : RawDevice). tells (Mark (End (record { reply = reply.Good; known = known }))) (record raw { con = d }) 1) con_is
 
   outcome_is : placed_line Mmio w (Notify Con 1) [] 0 ≡ record { world = world_after; reply = reply.Good }
-  outcome_is = ap (λ qs. record { world = record w { con = change_queue w.con 1 (λ q. record q { kick = true }) (join (slice_get qs 1)) }; reply = reply.Good }) queues.queues
+  outcome_is = ap (λ qs. record { world = record w { con = change_queue w.con 1 (λ q. record q { kick = true }) (option_flatten (slice_get qs 1)) }; reply = reply.Good }) queues.queues
 
   device_after : DevicePart 0x0f (2 ^ 32) world_after raw_after known
   device_after =

@@ -2,6 +2,7 @@
 use Rattle.std.proofs.Common.{◌≡◌, ℕ, zero, suc, ◌+◌, ◌-◌, ◌*◌, ◌%◌, ◌^◌, ◌≤◌, List, [], ◌∷◌, length, take, Bool, true, false, Some, None, refl, ◌∙◌, ap, arith}
 use Rattle.std.specs.Prelude.{not, filter, nat_lt, slice_get, if◌then◌else◌}
 use Rattle.std.proofs.lemmas.Bool.Decides.{nat_tests}
+use Rattle.std.specs.Option.{option_flatten}
 use Rattle.byteorder.specs.Endian.{little_bytes}
 use Rattle.vt_types.specs.declared.device.Dev.TheVariants.{Con}
 use Rattle.vt_types.specs.declared.reply.Why.TheVariants as why
@@ -13,7 +14,7 @@ use Rattle.vq_common.specs.Descriptor.{descriptor_bytes}
 use Rattle.vq_common.specs.Map.{driver_area, data_place}
 use Rattle.vq_common.specs.Queue.{DriverQueue}
 use Rattle.vq_split_drv.specs.Post.{numbers, is_in, post_puts, head_of}
-use Rattle.script_run.specs.Lowering.{DriverRecord, Ended, console_program, if_set, post_queue, post_end, unless_refused, queue_block, join}
+use Rattle.script_run.specs.Lowering.{DriverRecord, Ended, mmio_program, if_set, post_queue, end_of_post, unless_refused, queue_block}
 
 -- a buffer of one readable piece, with its bytes
 abbrev pub one_readable : ℕ → List ℕ → PostedBuffer
@@ -41,7 +42,7 @@ first_free (suc size) some = refl
 -- the program of a post once the queue's record is known
 abbrev post_with : DriverRecord → ℕ → RingCfg → DriverQueue → ℕ → List ℕ → List ℕ → Program Ended
 post_with known rounds cfg d tag bytes places =
-    and_then (do_all (post_puts (idle_driver rounds cfg d) (one_readable tag bytes) places) (Mark (End (true, with_descriptors rounds cfg d tag bytes places)))) (post_end known 1)
+    and_then (do_all (post_puts (idle_driver rounds cfg d) (one_readable tag bytes) places) (Mark (End (true, with_descriptors rounds cfg d tag bytes places)))) (end_of_post known 1)
 
 -- the accesses of a post: the bytes, the descriptor, the ring entry, the index
 abbrev pub posts : ℕ → RingCfg → ℕ → List ℕ → List AccessValue
@@ -55,12 +56,12 @@ posts rounds cfg byte bytes =
 -- the program of a post
 pub post_program_is : (known : DriverRecord) (rounds : ℕ) (cfg : RingCfg) (d : DriverQueue) (tag byte : ℕ) (bytes : List ℕ) → 1 ≤ cfg.size
     → known.queues ≡ None ∷ Some (idle_driver rounds cfg d) ∷ []
-    → console_program known (Post Con 1 (one_readable tag (byte ∷ bytes)))
-    ≡ and_then (do_all (posts rounds cfg byte bytes) (Mark (End (true, posted_driver rounds cfg d tag (byte ∷ bytes))))) (post_end known 1)
+    → mmio_program known (Post Con 1 (one_readable tag (byte ∷ bytes)))
+    ≡ and_then (do_all (posts rounds cfg byte bytes) (Mark (End (true, posted_driver rounds cfg d tag (byte ∷ bytes))))) (end_of_post known 1)
 post_program_is known rounds cfg d tag byte bytes some queues =
     let free : nat_lt (cfg.size - 0) 1 ≡ false = grind (arith, nat_tests) in
-    ap (λ qs. if_set known 1 (post_queue known 1 (one_readable tag (byte ∷ bytes))) (join (slice_get qs 1))) queues
+    ap (λ qs. if_set known 1 (post_queue known 1 (one_readable tag (byte ∷ bytes))) (option_flatten (slice_get qs 1))) queues
     ∙ ap (λ (test : Bool). unless_refused known (if test then Some why.Full else None)
     (and_then (if test then End (false, idle_driver rounds cfg d) else do_all (post_puts (idle_driver rounds cfg d) (one_readable tag (byte ∷ bytes)) (take 1 (filter (λ n. not (is_in n [])) (numbers 0 cfg.size))))
-    (Mark (End (true, with_descriptors rounds cfg d tag (byte ∷ bytes) (take 1 (filter (λ n. not (is_in n [])) (numbers 0 cfg.size))))))) (post_end known 1))) free
+    (Mark (End (true, with_descriptors rounds cfg d tag (byte ∷ bytes) (take 1 (filter (λ n. not (is_in n [])) (numbers 0 cfg.size))))))) (end_of_post known 1))) free
     ∙ ap (post_with known rounds cfg d tag (byte ∷ bytes)) (first_free cfg.size some)

@@ -2,6 +2,7 @@
 use Rattle.std.proofs.Common.{◌≡◌, ℕ, ◌+◌, ◌*◌, ◌%◌, ◌^◌, ◌<◌, ◌≤◌, List, [], ◌∷◌, ◌++◌, length, Bool, Some, None, inl, inr, refl, ◌∙◌, ap, arith}
 use Rattle.std.specs.Prelude.{slice_get, slice_set}
 use Rattle.std.proofs.Math.Nat.{mod-lt}
+use Rattle.std.specs.Option.{option_flatten}
 use Rattle.byteorder.specs.Endian.{little_bytes, little_number}
 use Rattle.guest_mem.specs.Memory.{part}
 use Rattle.guest_mem.proofs.Fields.{little_number-little_bytes}
@@ -13,15 +14,15 @@ use Rattle.vq_common.specs.declared.chain.RingCfg.{RingCfg}
 use Rattle.vq_common.specs.declared.descriptor.Descriptor.{Descriptor}
 use Rattle.vq_common.specs.Descriptor.{descriptor_bytes, descriptor_in}
 use Rattle.vq_common.specs.Map.{driver_area, data_place}
+use Rattle.vq_common.proofs.DescriptorLaws.{descriptor_in-descriptor_bytes}
 use Rattle.vq_common.specs.Queue.{DriverQueue}
-use Rattle.abstract_devices.specs.World.{World, AbstractQueue, with_queue, join}
+use Rattle.abstract_devices.specs.World.{World, AbstractQueue, with_queue}
 use Rattle.abstract_devices.specs.Operate.{placed_line, buffer_of, change_queue}
 use Rattle.script_run.specs.Lowering.{DriverRecord, cfg_of, queue_block, with_driver_queue}
 use Rattle.script_run.specs.RawState.{RawState}
 use Rattle.script_run.specs.Trace.{trace_of}
 use Rattle.script_run.proofs.Sizes.{IsSize, size_bounds}
 use Rattle.script_run.proofs.Stands.{Running, DevicePart, OneQueue, PostedRing, Idle, Posted}
-use Rattle.script_run.proofs.DescriptorLaw.{descriptor_reads_back}
 use Rattle.script_run.proofs.PutsLaw.{four_puts, length-four, first, second, third, fourth}
 use Rattle.script_run.proofs.PutsTrace.{four_puts_told}
 use Rattle.script_run.proofs.PostProgram.{one_readable, idle_driver, posted_driver, post_program_is}
@@ -69,7 +70,7 @@ reads_posted mem rounds size bytes long place few =
       entry = ap (little_number 2) (third mem DATA bytes (queue_block 1) ds (entry_place rounds size) es INDEX ws ia ib ic id (inl (omega arith)));
       descriptor =
           ap descriptor_in (second mem DATA bytes (queue_block 1) ds (entry_place rounds size) es INDEX ws ia ib ic id (inr (omega arith)) (inr (omega arith)))
-          ∙ descriptor_reads_back (descriptor_for bytes) (record { addr = omega arith; len = omega arith; flags = omega arith; next = omega arith });
+          ∙ descriptor_in-descriptor_bytes (descriptor_for bytes) (record { addr = omega arith; len = omega arith; flags = omega arith; next = omega arith });
       bytes_there = first mem DATA bytes (queue_block 1) ds (entry_place rounds size) es INDEX ws ia ib ic id (inl (omega arith)) (inl (omega arith)) (inl (omega arith));
     }
 
@@ -115,7 +116,7 @@ module _ (kick : Bool) (w : World) (raw : RawState) (known : DriverRecord) (runn
   unfolding raw_after
   memory_says = reads_posted raw.memory rounds size all device.memory (omega (arith, place_fits, sized.few)) few
 
-  tells_post : told (trace_of raw known (Post Con 1 buffer) []) ≡ record { reply = reply.Good; known = known_after; raw = raw_after; count = 4; place = 0 }
+  tells_post : told (trace_of Mmio raw known (Post Con 1 buffer) []) ≡ record { reply = reply.Good; known = known_after; raw = raw_after; count = 4; place = 0 }
   unfolding raw_after
   tells_post =
       ap (λ p. tells p raw 0) (post_program_is known rounds cfg driver tag byte bytes sized.some (queues.known_queues ∙ ap (λ d. None ∷ Some d ∷ []) driver_is))
@@ -125,7 +126,7 @@ module _ (kick : Bool) (w : World) (raw : RawState) (known : DriverRecord) (runn
 
   outcome_is : placed_line Mmio w (Post Con 1 buffer) [] 0 ≡ record { world = world_after; reply = reply.Good }
   outcome_is =
-      ap (λ qs. record { world = record w { con = change_queue w.con 1 (λ q. record q { available = q.available ++ buffer_of buffer ∷ [] }) (join (slice_get qs 1)) }; reply = reply.Good }) queues.queues
+      ap (λ qs. record { world = record w { con = change_queue w.con 1 (λ q. record q { available = q.available ++ buffer_of buffer ∷ [] }) (option_flatten (slice_get qs 1)) }; reply = reply.Good }) queues.queues
 
   posted_ring : PostedRing rounds size (buffer_of buffer) raw_after.memory queue_after ring driver_after
   posted_ring =

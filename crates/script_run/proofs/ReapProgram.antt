@@ -3,6 +3,7 @@ use Rattle.std.proofs.Common.{◌≡◌, ℕ, ◌+◌, ◌*◌, ◌%◌, ◌^◌
 use Rattle.std.specs.Prelude.{◌==◌, slice_get, if◌then◌else◌}
 use Rattle.std.proofs.lemmas.Bool.{cond-true}
 use Rattle.std.proofs.lemmas.Bool.Decides.{nat_tests}
+use Rattle.std.specs.Option.{option_flatten}
 use Rattle.byteorder.specs.Endian.{little_number}
 use Rattle.byteorder.specs.Numbers.{little_from-take}
 use Rattle.guest_mem.specs.Memory.{part, le16_at, le32_at}
@@ -17,7 +18,7 @@ use Rattle.vq_common.specs.Map.{driver_area, device_area}
 use Rattle.vq_common.specs.Queue.{DriverQueue}
 use Rattle.vq_split_drv.specs.Reap.{bytes_or_zeros, mark_unless, reap_element, split_reap_program, unreaped_with}
 use Rattle.abstract_devices.specs.World.{Buffer}
-use Rattle.script_run.specs.Lowering.{DriverRecord, Ended, console_program, if_set, reap_end, queue_block, with_driver_queue, join}
+use Rattle.script_run.specs.Lowering.{DriverRecord, Ended, mmio_program, if_set, end_of_reap, queue_block, with_driver_queue}
 use Rattle.script_run.specs.RawState.{RawState}
 use Rattle.script_run.proofs.Stands.{unreaped_of}
 use Rattle.script_run.proofs.TraceSteps.{tells, get_step}
@@ -52,7 +53,7 @@ last_four mem a = sym (little_from-take 0 4 4 (drop 4 (part mem a 8)) (omega ari
 module _ (known : DriverRecord) (q : DriverQueue) where
   -- the rest of a reap after the used element
   abbrev after_element : ℕ → ℕ → Program Ended
-  after_element id len = and_then (reap_element q len (unreaped_with id q.unreaped)) (reap_end known 1)
+  after_element id len = and_then (reap_element q len (unreaped_with id q.unreaped)) (end_of_reap known 1)
 
   abbrev on_element : List ℕ → Program Ended
   on_element element = after_element (little_number 4 (bytes_or_zeros 8 element)) (little_number 4 (drop 4 (bytes_or_zeros 8 element)))
@@ -61,7 +62,7 @@ module _ (known : DriverRecord) (q : DriverQueue) where
   abbrev after_index : Bool → Program Ended
   after_index none =
       and_then (if none then Mark (End (None, q)) else mark_unless q.cfg.event_idx (Do (Get (device_area q.base + (4 + 8 * (q.used % q.cfg.size))) 8) (λ _ element.
-      reap_element q (little_number 4 (drop 4 (bytes_or_zeros 8 element))) (unreaped_with (little_number 4 (bytes_or_zeros 8 element)) q.unreaped)))) (reap_end known 1)
+      reap_element q (little_number 4 (drop 4 (bytes_or_zeros 8 element))) (unreaped_with (little_number 4 (bytes_or_zeros 8 element)) q.unreaped)))) (end_of_reap known 1)
 
 module _ (known : DriverRecord) (rounds size : ℕ) (b : Buffer) (d : DriverQueue) (raw : RawState) where
   abbrev q : DriverQueue
@@ -79,7 +80,7 @@ module _ (known : DriverRecord) (rounds size : ℕ) (b : Buffer) (d : DriverQueu
       → le16_at raw.memory (device_area (queue_block 1) + 2) ≡ (rounds + 1) % 2 ^ 16
       → le32_at raw.memory (device_area (queue_block 1) + (4 + 8 * (rounds % size))) ≡ 0
       → le32_at raw.memory (device_area (queue_block 1) + (4 + 8 * (rounds % size)) + 4) ≡ 0
-      → tells (console_program known (Reap Con 1)) raw 0
+      → tells (mmio_program known (Reap Con 1)) raw 0
       ≡ record { reply = reply.Used b.tag 0 []; known = with_driver_queue known 1 (reaped_driver rounds size d); raw = raw; count = 2; place = 0 }
   reap_told queues fits inside index id len =
       let other : (little_number 2 (bytes_or_zeros 2 (part raw.memory INDEX 2)) == rounds) ≡ false =
@@ -87,7 +88,7 @@ module _ (known : DriverRecord) (rounds size : ℕ) (b : Buffer) (d : DriverQueu
       ∙ ap (λ (n : ℕ). n == rounds) index
       ∙ grind (arith, nat_tests) in
       let eight : bytes_or_zeros 8 (part raw.memory element 8) ≡ part raw.memory element 8 = whole 8 (part raw.memory element 8) (length-part raw.memory element 8 inside) in
-      ap (λ qs. tells (if_set known 1 (λ u. and_then (split_reap_program u) (reap_end known 1)) (join (slice_get qs 1))) raw 0) queues
+      ap (λ qs. tells (if_set known 1 (λ u. and_then (split_reap_program u) (end_of_reap known 1)) (option_flatten (slice_get qs 1))) raw 0) queues
       ∙ get_step raw INDEX 2 (λ _ idx. after_index known q (little_number 2 (bytes_or_zeros 2 idx) == rounds)) 0 (omega arith)
       ∙ ap (λ (none : Bool). tells (after_index known q none) raw 1) other
       ∙ get_step raw element 8 (λ _ bytes. on_element known q bytes) 1 inside

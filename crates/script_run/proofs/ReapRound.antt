@@ -2,16 +2,16 @@
 use Rattle.std.proofs.Common.{◌≡◌, ℕ, ◌+◌, ◌%◌, ◌<◌, ◌^◌, [], ◌∷◌, true, Some, None, refl, sym, ◌∙◌, ap, arith}
 use Rattle.std.specs.Prelude.{slice_get, slice_set}
 use Rattle.std.proofs.Math.Nat.{mod-lt}
+use Rattle.std.specs.Option.{option_flatten}
 use Rattle.vt_types.specs.declared.device.BusKind.TheVariants.{Mmio}
 use Rattle.vt_types.specs.declared.device.Dev.TheVariants.{Con}
 use Rattle.vt_types.specs.Operation.{Reap}
 use Rattle.vt_types.specs.Reply as reply
 use Rattle.vq_common.specs.Queue.{DriverQueue}
-use Rattle.dev_status.specs.Status.{has_bits}
-use Rattle.abstract_devices.specs.World.{World, AbstractQueue, Buffer, with_queue, join}
+use Rattle.dev_status.specs.Status.{INDIRECT_DESC, EVENT_IDX, has_bits}
+use Rattle.abstract_devices.specs.World.{World, AbstractQueue, Buffer, with_queue}
 use Rattle.abstract_devices.specs.Operate.{placed_line, reap_queue, reap_front}
 use Rattle.script_run.specs.Lowering.{DriverRecord, cfg_of, with_driver_queue}
-use Rattle.script_run.specs.MmioTable.{INDIRECT_DESC, EVENT_IDX}
 use Rattle.script_run.specs.RawState.{RawState}
 use Rattle.script_run.specs.Trace.{trace_of}
 use Rattle.script_run.proofs.Sizes.{IsSize, size_bounds}
@@ -54,13 +54,13 @@ module _ (b : Buffer) (w : World) (raw : RawState) (known : DriverRecord) (runni
   abbrev world_after : World
   world_after = record w { con = with_queue w.con 1 queue_after }
 
-  tells_reap : told (trace_of raw known (Reap Con 1) []) ≡ record { reply = reply.Used b.tag 0 []; known = known_after; raw = raw; count = 2; place = 0 }
+  tells_reap : told (trace_of Mmio raw known (Reap Con 1) []) ≡ record { reply = reply.Used b.tag 0 []; known = known_after; raw = raw; count = 2; place = 0 }
   tells_reap =
       reap_told known rounds size b driver raw (queues.known_queues ∙ ap (λ d. None ∷ Some d ∷ []) driver_is) round_fits
       (omega (arith, device.memory, place_fits, sized.few)) part.index part.id part.len
 
   outcome_is : placed_line Mmio w (Reap Con 1) [] 0 ≡ record { world = world_after; reply = reply.Used b.tag 0 [] }
-  outcome_is = ap (λ qs. reap_queue w Con 1 (join (slice_get qs 1))) queues.queues ∙ ap (reap_front w Con 1 queue) part.used
+  outcome_is = ap (λ qs. reap_queue w Con 1 (option_flatten (slice_get qs 1))) queues.queues ∙ ap (reap_front w Con 1 queue) part.used
 
   device_after : DevicePart 0x0f (2 ^ 32) world_after raw known_after
   device_after =

@@ -31,7 +31,7 @@ pub record IsOneReadable (b : PostedBuffer) : Type 0 where
 -- event stands before its mark
 abbrev pub TakesTo : Bool → Phase → World → RawState → DriverRecord → Operation → Type 0
 TakesTo kick phase w raw known op =
-    let t = trace_of raw known op [] in
+    let t = trace_of Mmio raw known op [] in
     let o = placed_line Mmio w op [] t.place in
     Running 0x0f kick phase o.world t.raw t.known × (o.reply ≡ t.reply) × (t.place ≡ 0) × (t.count ≤ 12)
 

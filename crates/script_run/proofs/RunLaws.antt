@@ -1,20 +1,17 @@
 use Rattle.std.proofs.Common.{◌≡◌, ℕ, ◌+◌, ◌≤◌, List, [], ◌++◌, Bool, true, false, Option, Some, None, refl, sym, ◌∙◌, ap, append_assoc, lit≤, arith}
 use Rattle.std.specs.Prelude.{if◌then◌else◌}
 use Rattle.std.proofs.lemmas.Bool.Decides.{nat_tests}
-use Rattle.vt_outside.specs.Sink.{SinkView}
-use Rattle.vt_outside.proofs.FaultsLaws.{rose_last}
-use Rattle.script_run.specs.declared.stop.Stop.TheVariants.{Read, Write, Memory}
-use Rattle.script_run.specs.Output.{SendCause}
 use Rattle.std.specs.Prelude.{Result, Ok, Err, codes, ◌==◌, ◌^◌}
 use Rattle.std.specs.Fmt.{decimal}
 use Rattle.std.specs.Bool.{MatchBool}
+use Rattle.vt_types.specs.declared.device.BusKind.TheVariants.{Mmio}
 use Rattle.vt_outside.specs.Text.{IsPrefixOf}
 use Rattle.abstract_devices.specs.World.{World, AbstractDisk, new_world}
 use Rattle.script_run.specs.Lowering.{DriverRecord, new_record}
 use Rattle.script_run.specs.RawState.{RawState, new_raw_state}
 use Rattle.script_run.specs.Report.{Report, before, report_from}
 use Rattle.script_run.specs.declared.stop.Stop.{Stop}
-use Rattle.script_run.specs.Run.{LinesDone, LinesCause, RunsLine, EndingPart}
+use Rattle.script_run.specs.Run.{LinesDone, RunsLine, EndingPart}
 use Rattle.script_run.specs.Script.{Script, ScriptLine, Ends, BadLine, TooLong, Line, line_at, and_rest, next_place}
 use Rattle.script_run.proofs.LineLaw.{line_holds, stands_start}
 use Rattle.script_run.proofs.LineStep.{steps}
@@ -25,7 +22,7 @@ pub record Reaches (disk : AbstractDisk) (whole rest : Script) (sent : List ℕ)
   pub world : World
   pub stands : Stands world raw known place
   pub disk_is : world.disk ≡ disk
-  pub report : report_from whole 0 (new_world disk) new_raw_state new_record ≡ before sent (report_from rest number world raw known)
+  pub report : report_from Mmio whole 0 (new_world disk) new_raw_state new_record ≡ before sent (report_from Mmio rest number world raw known)
 
 pub reaches_start : (disk : AbstractDisk) (script : Script) → Reaches disk script script [] 0 0 new_raw_state new_record
 reaches_start disk script = record { world = new_world disk; stands = stands_start disk; disk_is = refl; report = refl }
@@ -45,9 +42,9 @@ reaches_next disk whole rest after sent added bytes place number line raw raw2 k
       stands = s.stands;
       disk_is = s.disk ∙ r.disk_is;
       report =
-          r.report ∙ ap (λ (x : Script). before sent (report_from x number r.world raw known)) begins
-          ∙ ap (before sent) (s.report (λ w2 raw3 known3. report_from after (number + 1) w2 raw3 known3))
-          ∙ before_before sent added (report_from after (number + 1) s.world raw2 known2);
+          r.report ∙ ap (λ (x : Script). before sent (report_from Mmio x number r.world raw known)) begins
+          ∙ ap (before sent) (s.report (λ w2 raw3 known3. report_from Mmio after (number + 1) w2 raw3 known3))
+          ∙ before_before sent added (report_from Mmio after (number + 1) s.world raw2 known2);
     }
 
 pub reaches_start_at : (disk : AbstractDisk) (script : Script) (raw : RawState) (known : DriverRecord) → raw ≡ new_raw_state → known ≡ new_record
@@ -87,10 +84,10 @@ shown place w raw known =
 
 -- the lines ended with the input
 pub done_at_end : (disk : AbstractDisk) (whole rest : Script) (sent : List ℕ) (place number : ℕ) (raw : RawState) (known : DriverRecord) → rest ≡ Ends
-    → Reaches disk whole rest sent place number raw known → LinesDone (report_from whole 0 (new_world disk) new_raw_state new_record) (Ok 0) sent raw.console disk
+    → Reaches disk whole rest sent place number raw known → LinesDone (report_from Mmio whole 0 (new_world disk) new_raw_state new_record) (Ok 0) sent raw.console disk
 done_at_end disk whole rest sent place number raw known is r =
     let h = shown place r.world raw known r.stands in
-    r.report ∙ ap (λ (x : Script). before sent (report_from x number r.world raw known)) is ∙ rw (h.sent, h.console, r.disk_is) refl
+    r.report ∙ ap (λ (x : Script). before sent (report_from Mmio x number r.world raw known)) is ∙ rw (h.sent, h.console, r.disk_is) refl
 
 -- a report that ends with a text
 pub record EndsWith (r : Report) (sent text : List ℕ) (status : ℕ) : Type 0 where
@@ -99,24 +96,24 @@ pub record EndsWith (r : Report) (sent text : List ℕ) (status : ℕ) : Type 0 
 
 -- the lines ended with too many bytes, or at a line that is not in the grammar
 pub ends_too_long : (disk : AbstractDisk) (whole rest : Script) (sent : List ℕ) (place number : ℕ) (raw : RawState) (known : DriverRecord) → rest ≡ TooLong
-    → Reaches disk whole rest sent place number raw known → EndsWith (report_from whole 0 (new_world disk) new_raw_state new_record) sent (codes "too long\n") 7
+    → Reaches disk whole rest sent place number raw known → EndsWith (report_from Mmio whole 0 (new_world disk) new_raw_state new_record) sent (codes "too long\n") 7
 ends_too_long disk whole rest sent place number raw known is r =
-    let e = r.report ∙ ap (λ (x : Script). before sent (report_from x number r.world raw known)) is in
+    let e = r.report ∙ ap (λ (x : Script). before sent (report_from Mmio x number r.world raw known)) is in
     record { text_is = ap (λ (x : Report). x.text) e; status_is = ap (λ (x : Report). x.status) e }
 
 pub ends_bad : (disk : AbstractDisk) (whole rest after : Script) (sent bytes : List ℕ) (place number : ℕ) (raw : RawState) (known : DriverRecord) → rest ≡ and_rest (line_at place bytes) after
     → line_at place bytes ≡ None → Reaches disk whole rest sent place number raw known
-    → EndsWith (report_from whole 0 (new_world disk) new_raw_state new_record) sent (codes "fault " ++ decimal (number + 1) ++ codes "\n") 3
+    → EndsWith (report_from Mmio whole 0 (new_world disk) new_raw_state new_record) sent (codes "fault " ++ decimal (number + 1) ++ codes "\n") 3
 ends_bad disk whole rest after sent bytes place number raw known is bad r =
     let begins : rest ≡ BadLine = is ∙ ap (λ (o : Option ScriptLine). and_rest o after) bad in
-    let e = r.report ∙ ap (λ (x : Script). before sent (report_from x number r.world raw known)) begins in
+    let e = r.report ∙ ap (λ (x : Script). before sent (report_from Mmio x number r.world raw known)) begins in
     record { text_is = ap (λ (x : Report). x.text) e; status_is = ap (λ (x : Report). x.status) e }
 
 -- what was sent so far is the front of the report
 pub front : (disk : AbstractDisk) (whole rest : Script) (sent : List ℕ) (place number : ℕ) (raw : RawState) (known : DriverRecord)
-    → Reaches disk whole rest sent place number raw known → IsPrefixOf sent (report_from whole 0 (new_world disk) new_raw_state new_record).text
+    → Reaches disk whole rest sent place number raw known → IsPrefixOf sent (report_from Mmio whole 0 (new_world disk) new_raw_state new_record).text
 front disk whole rest sent place number raw known r =
-    ((report_from rest number r.world raw known).text, sym (ap (λ (x : Report). x.text) r.report))
+    ((report_from Mmio rest number r.world raw known).text, sym (ap (λ (x : Report). x.text) r.report))
 
 -- a last text was sent: the report is all sent, or a part of it is
 pub done_ending : (r : Report) (result : Result ℕ Stop) (sent last text console : List ℕ) (status : ℕ) (disk : AbstractDisk) → (status == 0) ≡ false → EndsWith r sent text status
@@ -131,18 +128,7 @@ pub done_in_part : (r : Report) (stop : Stop) (sent last whole console : List �
 done_in_part r stop sent last whole console disk (rest, e) (more, f) =
     (rest ++ more, append_assoc sent last (rest ++ more) ∙ ap (λ (z : List ℕ). sent ++ z) (sym (append_assoc last rest more)) ∙ ap (λ (z : List ℕ). sent ++ (z ++ more)) e ∙ sym (append_assoc sent whole more) ∙ f)
 
--- a cause that holds later holds of the whole
-pub cause_of_all : (result : Result ℕ Stop) (k k1 k2 : SinkView) → k.faults ≤ k1.faults → LinesCause result k1 k2 → LinesCause result k k2
-cause_of_all (Ok status) k k1 k2 later h = tt
-cause_of_all (Err Read) k k1 k2 later h = h
-cause_of_all (Err Write) k k1 k2 later h = rose_last _ _ _ later h
-cause_of_all (Err Memory) k k1 k2 later h = tt
-
-pub send_cause_of_all : (stop : Stop) (k k1 k2 : SinkView) → k.faults ≤ k1.faults → SendCause (Err stop) k1 k2 → LinesCause (Err stop) k k2
-send_cause_of_all Read k k1 k2 later h = h
-send_cause_of_all Write k k1 k2 later h = rose_last _ _ _ later h
-send_cause_of_all Memory k k1 k2 later h = tt
-
+-- a place of the pattern is at most the last one
 pub next_place_fits : (place : ℕ) → place ≤ 11 → next_place place ≤ 11
 next_place_fits place few = fits (place == 11) refl
   where

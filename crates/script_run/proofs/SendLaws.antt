@@ -8,11 +8,10 @@ use Rattle.vt_outside.proofs.SinkLaws.{adds_none, adds_then}
 use Rattle.vt_outside.proofs.TextLaws.{prefix_behind, prefix_then}
 use Rattle.script_run.specs.declared.stop.Stop.{Stop}
 use Rattle.script_run.specs.declared.stop.Stop.TheVariants.{Read, Write, Memory}
-use Rattle.script_run.specs.EndParts.{SendsImage}
-use Rattle.script_run.specs.Output.{AllOrPart, SendCause, Sends, SameDisk}
+use Rattle.script_run.specs.Output.{AllOrPart, SendCause, Sends, SendsImage, SameDisk}
 
 -- a cause of sending stays one where the sink was used before
-pub cause_later : (r : Result Unit Stop) (k k1 k2 : SinkView) → k.faults ≤ k1.faults → SendCause r k1 k2 → SendCause r k k2
+pub cause_later : {X : Type 0} (r : Result X Stop) (k k1 k2 : SinkView) → k.faults ≤ k1.faults → SendCause r k1 k2 → SendCause r k k2
 cause_later (Ok x) k k1 k2 le h = tt
 cause_later (Err Read) k k1 k2 le h = h
 cause_later (Err Write) k k1 k2 le h = rose_last k.faults k1.faults k2.faults le h

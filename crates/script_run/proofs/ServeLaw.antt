@@ -1,7 +1,8 @@
 -- A serve of the transmit queue, on the raw machine and on the abstract devices.
 use Rattle.std.proofs.Common.{◌≡◌, ℕ, List, [], ◌∷◌, ◌++◌, true, Some, None, refl, ◌∙◌, ap, append-nil}
-use Rattle.std.specs.Prelude.{slice_get, ◌&&◌}
+use Rattle.std.specs.Prelude.{length, nat_lt, slice_get, ◌&&◌}
 use Rattle.std.proofs.lemmas.Bool.{cond-true}
+use Rattle.std.specs.Option.{option_flatten}
 use Rattle.vt_types.specs.declared.device.Dev.TheVariants.{Con}
 use Rattle.vq_common.specs.declared.descriptor.Descriptor.{Descriptor}
 use Rattle.vq_common.specs.Chain.{ChainValue, Front}
@@ -12,7 +13,7 @@ use Rattle.vq_split_dev.specs.Give.{split_given}
 use Rattle.guest_mem.specs.Memory.{part}
 use Rattle.dev_status.specs.Status.{has_bits, DRIVER_OK}
 use Rattle.dev_console.specs.Console.{console_answer}
-use Rattle.abstract_devices.specs.World.{World, AbstractQueue, Buffer, join}
+use Rattle.abstract_devices.specs.World.{World, AbstractQueue, Buffer}
 use Rattle.abstract_devices.specs.Serve.{serve, serve_front, serve_console, answered, is_served}
 use Rattle.script_run.specs.RawState.{RawState, RawQueue, new_raw_queue}
 use Rattle.script_run.specs.RawServe.{raw_serve, serve_queue, serve_ring, serve_walked, may_serve, give_answer, with_given}
@@ -23,10 +24,10 @@ raw_served : (raw : RawState) (q : RawQueue) (ring : DeviceQueue) (c : ChainValu
     → raw.con.status.status ≡ 0x0f → q.kick ≡ true → split_walk raw.memory ring ≡ Front c
     → raw_serve raw Con 1 ≡ give_answer raw 1 q ring c (console_answer 1 (readable raw.memory c.pieces) (room c.pieces) raw.waiting raw.console)
 raw_served raw q ring c queues set status kick walk =
-    let may : may_serve raw 1 q ≡ true = rw (status, kick) refl in
+    let may : may_serve raw.con.status 1 (nat_lt 0 (length raw.waiting)) q ≡ true = rw (status, kick) refl in
     ap (λ qs. serve_queue raw 1 (slice_get qs 1)) queues
     ∙ ap (serve_ring raw 1 q) set
-    ∙ cond-true (may_serve raw 1 q) (serve_walked raw 1 q ring (split_walk raw.memory ring)) raw may
+    ∙ cond-true (may_serve raw.con.status 1 (nat_lt 0 (length raw.waiting)) q) (serve_walked raw 1 q ring (split_walk raw.memory ring)) raw may
     ∙ ap (serve_walked raw 1 q ring) walk
 
 -- the raw machine once a piece's bytes joined the console's, and its chain is given back with none written
@@ -47,6 +48,6 @@ pub world_served : (w : World) (q : AbstractQueue) (b : Buffer) → w.con.queues
     → serve w Con 1 ≡ answered w 1 q b [] (record { written = []; waiting = w.waiting; console = w.console ++ b.readable })
 world_served w q b queues status kick available =
     let may : (has_bits w.con.status DRIVER_OK && q.kick && is_served w 1) ≡ true = rw (status, kick) refl in
-    ap (λ qs. serve_console w 1 (join (slice_get qs 1))) queues
+    ap (λ qs. serve_console w 1 (option_flatten (slice_get qs 1))) queues
     ∙ cond-true (has_bits w.con.status DRIVER_OK && q.kick && is_served w 1) (serve_front w 1 q q.available) w may
     ∙ ap (serve_front w 1 q) available

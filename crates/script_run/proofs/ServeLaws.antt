@@ -1,7 +1,6 @@
 -- What the steps of serving a queue come to.
 use Rattle.std.proofs.Common.{◌≡◌, ℕ, zero, suc, ◌+◌, ◌≤◌, ◌==◌, List, [], ◌∷◌, ◌++◌, length, take, drop, Bool, true, false, IsTrue, Option, Some, None, refl, sym, ◌∙◌, ap, subst, arith, length-append}
-use Rattle.std.proofs.lemmas.Bool.Decides.{nat_tests}
-use Rattle.std.specs.Prelude.{◌&&◌, nat_lt, option_map, slice_get, slice_set, if◌then◌else◌}
+use Rattle.std.specs.Prelude.{is_some, ◌&&◌, nat_lt, option_map, slice_get, slice_set, if◌then◌else◌}
 use Rattle.std.specs.Int.RustNames.{bit_or}
 use Rattle.vq_common.specs.declared.chain.Chain.{Chain}
 use Rattle.vq_common.specs.declared.chain.Piece.{Piece}
@@ -17,8 +16,7 @@ use Rattle.vq_split_dev.specs.Give.{split_given}
 use Rattle.vq_split_dev.specs.Shown.{shown}
 use Rattle.dev_console.specs.Console.{ConsoleState, ConsoleAnswer, console_answer}
 use Rattle.dev_console.specs.Serve.{Serves}
-use Rattle.script_run.specs.MmioTable.{is_ready}
-use Rattle.script_run.specs.RawServe.{with_raw_queue, with_queue_signal, give_answer, serve_walked, serve_ring, serve_queue, may_serve, is_input_there}
+use Rattle.script_run.specs.RawServe.{with_raw_queue, with_queue_signal, give_answer, serve_walked, serve_ring, serve_queue, may_serve}
 use Rattle.script_run.specs.RawState.{RawState, RawDevice, RawQueue}
 use Rattle.script_run.specs.ServeSteps.{raw_of, is_queue_served, shown_by, device_after, IsGivable, QueueGives, DeviceGives}
 
@@ -29,11 +27,6 @@ both false b holds = absurd (cc)
 
 same_some : {X : Type 0} → (x y : X) → Some x ≡ Some y → x ≡ y
 same_some x y is = cc
-
--- input waits where its length is not 0
-input_is_there : (bytes : List ℕ) → nat_lt 0 (length bytes) ≡ is_input_there bytes
-input_is_there [] = refl
-input_is_there (b ∷ bs) = grind (arith, nat_tests)
 
 -- an item that was written is read
 slice_get-set : {X : Type 0} → (xs : List X) (n : ℕ) (x y : X) → slice_get xs n ≡ Some x → slice_get (slice_set xs n y) n ≡ Some y
@@ -73,16 +66,16 @@ record IsServed (raw : RawState) (n : ℕ) (at : Option RawQueue) : Type 0 where
   pub set : q.ring ≡ Some ring
   pub serves : serve_queue raw n at ≡ serve_walked raw n q ring (split_walk raw.memory ring)
 
-served_by : (raw : RawState) (n : ℕ) (q : RawQueue) (o : Option DeviceQueue) → q.ring ≡ o → may_serve raw n q && is_ready o ≡ true
+served_by : (raw : RawState) (n : ℕ) (q : RawQueue) (o : Option DeviceQueue) → q.ring ≡ o → may_serve raw.con.status n (nat_lt 0 (length raw.waiting)) q && is_some o ≡ true
     → (ring : DeviceQueue) × (o ≡ Some ring) × (serve_ring raw n q o ≡ serve_walked raw n q ring (split_walk raw.memory ring))
 served_by raw n q None is holds =
-    let (may, ready) = both (may_serve raw n q) false holds in
+    let (may, ready) = both (may_serve raw.con.status n (nat_lt 0 (length raw.waiting)) q) false holds in
     absurd (cc)
 served_by raw n q (Some ring) is holds =
-    let (may, ready) = both (may_serve raw n q) true holds in
+    let (may, ready) = both (may_serve raw.con.status n (nat_lt 0 (length raw.waiting)) q) true holds in
     (ring, refl, rw may refl)
 
-served : (raw : RawState) (n : ℕ) (at : Option RawQueue) → is_queue_served raw.con.status n (is_input_there raw.waiting) at ≡ true → IsServed raw n at
+served : (raw : RawState) (n : ℕ) (at : Option RawQueue) → is_queue_served raw.con.status n (nat_lt 0 (length raw.waiting)) at ≡ true → IsServed raw n at
 served raw n None holds = absurd (cc)
 served raw n (Some q) holds =
     let (ring, set, serves) = served_by raw n q q.ring refl holds in
@@ -90,9 +83,9 @@ served raw n (Some q) holds =
 
 -- what the test of a served queue says
 pub holds : (d : RawDevice) (n : ℕ) (waiting : List ℕ) (k : ℕ) (result : Bool) → k ≡ length waiting → result ≡ is_queue_served d.status n (nat_lt 0 k) (slice_get d.queues n) → result ≡ true
-    → is_queue_served d.status n (is_input_there waiting) (slice_get d.queues n) ≡ true
+    → is_queue_served d.status n (nat_lt 0 (length waiting)) (slice_get d.queues n) ≡ true
 holds d n waiting k result long value is =
-    let input : nat_lt 0 k ≡ is_input_there waiting = ap (λ (i : ℕ). nat_lt 0 i) long ∙ input_is_there waiting in
+    let input : nat_lt 0 k ≡ nat_lt 0 (length waiting) = ap (λ (i : ℕ). nat_lt 0 i) long in
     ap (λ (t : Bool). is_queue_served d.status n t (slice_get d.queues n)) (sym input) ∙ sym value ∙ is
 
 -- where a chain is shown, it is answered
@@ -105,7 +98,7 @@ pub record IsTaken (mem : List ℕ) (d : RawDevice) (s : ConsoleState) (n : ℕ)
   pub serves : serve_queue (raw_of mem d s) n (slice_get d.queues n) ≡ give_answer (raw_of mem d s) n q ring c (console_answer n (readable mem c.pieces) (room c.pieces) s.waiting s.console)
 
 pub taken : (mem : List ℕ) (d : RawDevice) (s : ConsoleState) (n : ℕ) (c : ChainValue) (d2 : RawDevice)
-    → is_queue_served d.status n (is_input_there s.waiting) (slice_get d.queues n) ≡ true
+    → is_queue_served d.status n (nat_lt 0 (length s.waiting)) (slice_get d.queues n) ≡ true
     → ((q : RawQueue) → slice_get d.queues n ≡ Some q → Front c ≡ shown_by mem q.ring)
     → ((q : RawQueue) → slice_get d.queues n ≡ Some q → d2 ≡ device_after d n q (Front c))
     → IsTaken mem d s n c d2
@@ -201,7 +194,7 @@ rest_by mem d s n q ring shows.Bad none = refl
 rest_by mem d s n q ring (shows.Front chain) none = absurd (none chain refl)
 
 pub nothing_taken : (mem : List ℕ) (d : RawDevice) (s : ConsoleState) (n : ℕ) (t : Take) (d2 : RawDevice)
-    → is_queue_served d.status n (is_input_there s.waiting) (slice_get d.queues n) ≡ true
+    → is_queue_served d.status n (nat_lt 0 (length s.waiting)) (slice_get d.queues n) ≡ true
     → ((chain : Chain) → t ≡ shows.Front chain → ⊥)
     → ((q : RawQueue) → slice_get d.queues n ≡ Some q → walked t ≡ shown_by mem q.ring)
     → ((q : RawQueue) → slice_get d.queues n ≡ Some q → d2 ≡ device_after d n q (walked t))

@@ -22,11 +22,11 @@ FitsTold kick phase w op t = FitsOutcome kick phase (placed_line Mmio w op [] t.
 
 -- an operation without events takes the two halves to a phase
 abbrev pub LeadsTo : Bool → Phase → World → RawState → DriverRecord → Operation → Type 0
-LeadsTo kick phase w raw known op = FitsTold kick phase w op (told (trace_of raw known op []))
+LeadsTo kick phase w raw known op = FitsTold kick phase w op (told (trace_of Mmio raw known op []))
 
 -- it does where what it tells and its abstract outcome are known, and they fit
 pub leads_to : (kick : Bool) (phase : Phase) (w : World) (raw : RawState) (known : DriverRecord) (op : Operation) (r : ReplyValue) (known2 : DriverRecord) (raw2 : RawState) (count : ℕ) (w2 : World)
-    → told (trace_of raw known op []) ≡ record { reply = r; known = known2; raw = raw2; count = count; place = 0 }
+    → told (trace_of Mmio raw known op []) ≡ record { reply = r; known = known2; raw = raw2; count = count; place = 0 }
     → placed_line Mmio w op [] 0 ≡ record { world = w2; reply = r } → Running 0x0f kick phase w2 raw2 known2 → count ≤ 12
     → LeadsTo kick phase w raw known op
 leads_to kick phase w raw known op r known2 raw2 count w2 tells_it outcome running few =

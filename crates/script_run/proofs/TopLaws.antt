@@ -1,5 +1,9 @@
-use Rattle.std.proofs.Common.{◌≡◌, ℕ, List, true, false, Option, Some, refl, sym, ◌∙◌, ap, inl, inr}
-use Rattle.std.specs.Prelude.{Result, Ok, Err, ◌⊎◌, IsTrue, not, ◌||◌, ◌==◌}
+use Rattle.std.proofs.Common.{◌≡◌, ℕ, List, [], ◌∷◌, Bool, true, false, Option, Some, None, refl, subst, sym, ◌∙◌, ap, inl, inr}
+use Rattle.std.specs.Prelude.{Result, Ok, Err, IfOk, ◌⊎◌, IsTrue, not, ◌||◌, ◌&&◌, ◌==◌, codes, is_some, if◌then◌else◌}
+use Rattle.std.specs.Str.{bytes_eq}
+use Rattle.std.proofs.lemmas.Option.{same_Some}
+use Rattle.vt_types.specs.declared.device.BusKind.{BusKind}
+use Rattle.vt_types.specs.declared.device.BusKind.TheVariants.{Mmio}
 use Rattle.vt_outside.specs.Disk.{DiskView}
 use Rattle.vt_outside.specs.Faults.{Rose}
 use Rattle.vt_outside.specs.Sink.{SinkView}
@@ -9,14 +13,14 @@ use Rattle.vt_outside.proofs.WatchLaws.{shows_none}
 use Rattle.abstract_devices.specs.World.{AbstractDisk, new_world}
 use Rattle.script_run.specs.declared.stop.Stop.{Stop}
 use Rattle.script_run.specs.declared.stop.Stop.TheVariants.{Read, Write, Memory}
-use Rattle.script_run.specs.Headline.{Headline, AnswersScript, Stopped, Written, is_run, usage}
+use Rattle.script_run.specs.Headline.{Headline, AnswersScript, Stopped, Written, bus_of, usage}
 use Rattle.script_run.specs.Lowering.{new_record}
-use Rattle.script_run.specs.Output.{Sends}
+use Rattle.script_run.specs.Output.{AllOrPart, Sends}
 use Rattle.script_run.specs.RawState.{new_raw_state}
 use Rattle.script_run.specs.Report.{report_of}
-use Rattle.script_run.specs.Run.{RunsScript, ScriptCause, EndsAs, WritesReport, number_of, usage_number}
-use Rattle.script_run.specs.Script.{script_of, status_at_end}
-use Rattle.script_run.proofs.ReportLaws.{report_image}
+use Rattle.script_run.specs.Run.{RunsScript, ScriptCause, EndsAs, run_status, usage_status}
+use Rattle.script_run.specs.Script.{Script, script_of, status_at_end}
+use Rattle.script_run.proofs.ReportLaws.{report_image, report_status}
 use Rattle.script_run.proofs.ScriptRunLaws.{same_disk}
 
 -- none of the numbers that end a script
@@ -29,41 +33,68 @@ not_last n status (inr (inl a)) e o = let k = rw (sym e ∙ a) at o in cc
 not_last n status (inr (inr a)) e o = let k = rw (sym e ∙ a) at o in cc
 
 -- the status that a stop gives
-stopped : (stop : Stop) → Stopped (number_of (Err stop))
+stopped : (stop : Stop) → Stopped (run_status (Err stop))
 stopped Read = inl refl
 stopped Write = inr (inl refl)
 stopped Memory = inr (inr refl)
 
 -- what was written, by how the script was run
-written : (result : Result ℕ Stop) (text whole : List ℕ) → WritesReport result text whole → Written (number_of result) text whole
+written : (result : Result ℕ Stop) (text whole : List ℕ) → AllOrPart result text whole → Written (run_status result) text whole
 written (Ok status) text whole all = (prefix_equal text whole all, inr all)
 written (Err stop) text whole part = (part, inl (stopped stop))
 
-ended : (result : Result ℕ Stop) (status : ℕ) (s : _) → EndsAs result s → Stopped (number_of result) ⊎ (number_of result ≡ status_at_end s)
+ended : (result : Result ℕ Stop) (status : ℕ) (s : _) → EndsAs result s → Stopped (run_status result) ⊎ (run_status result ≡ status_at_end s)
 ended (Ok status) n s e = inr e
 ended (Err stop) n s e = inl (stopped stop)
 
 complete_of : (result : Result ℕ Stop) (s s2 : SourceView) (k k2 : SinkView) (script : _) → ScriptCause result s s2 k k2 → EndsAs result script → status_at_end script ≡ 0
-    → (Rose s.faults s2.faults → ⊥) → (Rose k.faults k2.faults → ⊥) → (number_of result ≡ 0) ⊎ (number_of result ≡ 6)
+    → (Rose s.faults s2.faults → ⊥) → (Rose k.faults k2.faults → ⊥) → (run_status result ≡ 0) ⊎ (run_status result ≡ 6)
 complete_of (Ok status) s s2 k k2 script cause ends whole calm still = inl (ends ∙ whole)
 complete_of (Err Read) s s2 k k2 script cause ends whole calm still = absurd (calm cause)
 complete_of (Err Write) s s2 k k2 script cause ends whole calm still = absurd (still cause)
 complete_of (Err Memory) s s2 k k2 script cause ends whole calm still = inr refl
 
-answers : (s s2 : SourceView) (k k2 : SinkView) (d d2 : DiskView) (result : Result ℕ Stop) (r : RunsScript s s2 k k2 d d2 result) → AnswersScript s s2 k k2 d d2 (number_of result) r.text
+-- the status is that of the report
+status_is : (result : Result ℕ Stop) (script : Script) (status : ℕ) → status_at_end script ≡ status → EndsAs result script → Stopped (run_status result) ⊎ (run_status result ≡ status)
+status_is (Ok given) script status same ends = inr (ends ∙ same)
+status_is (Err stop) script status same ends = inl (stopped stop)
+
+-- with 0 the source was read to its end
+read_whole : (result : Result ℕ Stop) (s2 : SourceView) → IfOk result (λ status. status ≡ 0 → s2.left ≡ Some []) → run_status result ≡ 0 → s2.left ≡ Some []
+read_whole (Ok status) s2 reads zero = reads zero
+read_whole (Err Read) s2 reads zero = absurd (cc)
+read_whole (Err Write) s2 reads zero = absurd (cc)
+read_whole (Err Memory) s2 reads zero = absurd (cc)
+
+answers : (s s2 : SourceView) (k k2 : SinkView) (d d2 : DiskView) (result : Result ℕ Stop) (r : RunsScript s s2 k k2 d d2 result) → AnswersScript Mmio s s2 k k2 d d2 (run_status result) r.text
 answers s s2 k k2 d d2 result r = record {
+  takes = r.takes;
   ends = λ input is. ended result 0 (script_of input) (r.ends input is);
+  reads = λ input is zero. read_whole result s2 (r.reads input is) zero;
+  stops = λ input disk is some. written result r.text (report_of Mmio input disk).text (r.stops input disk is some);
   report = λ input image is shows calm.
       let disk : AbstractDisk = record { sectors = image; read_only = d.locked } in (
-        written result r.text (report_of input disk).text (r.report input image is shows calm),
+        written result r.text (report_of Mmio input disk).text (r.report input image is shows calm),
+        status_is result (script_of input) (report_of Mmio input disk).status (sym (report_status (script_of input) 0 (new_world disk) new_raw_state new_record)) (r.ends input is),
         r.disk.image ∙ shows ∙ ap (λ (z : List (List ℕ)). Some z) (sym (report_image (script_of input) 0 (new_world disk) new_raw_state new_record)),
       );
   complete = λ input is whole calm still. complete_of result s s2 k k2 (script_of input) r.cause (r.ends input is) whole calm still;
 }
 
+-- the words that name a bus name MMIO
+if_some : (b : Bool) → is_some (if b then Some Mmio else None) ≡ true → (if b then Some Mmio else None) ≡ Some Mmio
+if_some true some = refl
+if_some false some = absurd (cc)
+
+pub names_mmio : (words : List (List ℕ)) → is_some (bus_of words) ≡ true → bus_of words ≡ Some Mmio
+names_mmio [] some = absurd (cc)
+names_mmio (command ∷ []) some = absurd (cc)
+names_mmio (command ∷ bus ∷ []) some = if_some (bytes_eq command (codes "run") && bytes_eq bus (codes "mmio")) some
+names_mmio (command ∷ bus ∷ more ∷ words) some = absurd (cc)
+
 -- a script was run
 pub headline_of_run : (words : List (List ℕ)) (s s2 : SourceView) (k k2 : SinkView) (d d2 : DiskView) (w : Option (List ℕ)) (result : Result ℕ Stop)
-    → is_run words ≡ true → RunsScript s s2 k k2 d d2 result → Headline words s s2 k k2 d d2 w w (number_of result)
+    → bus_of words ≡ Some Mmio → RunsScript s s2 k k2 d d2 result → Headline words s s2 k k2 d d2 w w (run_status result)
 headline_of_run words s s2 k k2 d d2 w (Ok status) is r = record {
   text = r.text;
   written = r.adds;
@@ -73,7 +104,7 @@ headline_of_run words s s2 k k2 d d2 w (Ok status) is r = record {
   source_failed = λ e. absurd (not_last 4 status r.cause e refl);
   sink_failed = λ e. absurd (not_last 5 status r.cause e refl);
   only_usage = λ e. absurd (not_last 2 status r.cause e refl);
-  runs = λ yes_run. answers s s2 k k2 d d2 (Ok status) r;
+  runs = λ bus names. subst (λ (b : BusKind). AnswersScript b s s2 k k2 d d2 (run_status (Ok status)) r.text) (same_Some Mmio bus (sym is ∙ names)) (answers s s2 k k2 d d2 (Ok status) r);
   refuses = λ no_run. cc;
 }
 headline_of_run words s s2 k k2 d d2 w (Err Read) is r = record {
@@ -85,7 +116,7 @@ headline_of_run words s s2 k k2 d d2 w (Err Read) is r = record {
   source_failed = λ e. r.cause;
   sink_failed = λ e. cc;
   only_usage = λ e. cc;
-  runs = λ yes_run. answers s s2 k k2 d d2 (Err Read) r;
+  runs = λ bus names. subst (λ (b : BusKind). AnswersScript b s s2 k k2 d d2 (run_status (Err Read)) r.text) (same_Some Mmio bus (sym is ∙ names)) (answers s s2 k k2 d d2 (Err Read) r);
   refuses = λ no_run. cc;
 }
 headline_of_run words s s2 k k2 d d2 w (Err Write) is r = record {
@@ -97,7 +128,7 @@ headline_of_run words s s2 k k2 d d2 w (Err Write) is r = record {
   source_failed = λ e. cc;
   sink_failed = λ e. r.cause;
   only_usage = λ e. cc;
-  runs = λ yes_run. answers s s2 k k2 d d2 (Err Write) r;
+  runs = λ bus names. subst (λ (b : BusKind). AnswersScript b s s2 k k2 d d2 (run_status (Err Write)) r.text) (same_Some Mmio bus (sym is ∙ names)) (answers s s2 k k2 d d2 (Err Write) r);
   refuses = λ no_run. cc;
 }
 headline_of_run words s s2 k k2 d d2 w (Err Memory) is r = record {
@@ -109,13 +140,13 @@ headline_of_run words s s2 k k2 d d2 w (Err Memory) is r = record {
   source_failed = λ e. cc;
   sink_failed = λ e. cc;
   only_usage = λ e. cc;
-  runs = λ yes_run. answers s s2 k k2 d d2 (Err Memory) r;
+  runs = λ bus names. subst (λ (b : BusKind). AnswersScript b s s2 k k2 d d2 (run_status (Err Memory)) r.text) (same_Some Mmio bus (sym is ∙ names)) (answers s s2 k k2 d d2 (Err Memory) r);
   refuses = λ no_run. cc;
 }
 
 -- the usage line was sent, or a part of it
 pub headline_of_usage : (words : List (List ℕ)) (s : SourceView) (k k2 : SinkView) (d : DiskView) (w : Option (List ℕ)) (result : Result Unit Stop)
-    → is_run words ≡ false → Sends k k2 usage result → Headline words s s k k2 d d w w (usage_number result)
+    → bus_of words ≡ None → Sends k k2 usage result → Headline words s s k k2 d d w w (usage_status result)
 headline_of_usage words s k k2 d w (Ok x) is sent = record {
   text = sent.sent;
   written = sent.adds;
@@ -125,7 +156,7 @@ headline_of_usage words s k k2 d w (Ok x) is sent = record {
   source_failed = λ e. cc;
   sink_failed = λ e. cc;
   only_usage = λ e. is;
-  runs = λ yes_run. cc;
+  runs = λ bus names. cc;
   refuses = λ no_run. record { answers = inl refl; writes = (prefix_equal _ _ sent.part, inr sent.part); source = refl; disk = refl };
 }
 headline_of_usage words s k k2 d w (Err Read) is sent = absurd sent.cause
@@ -138,7 +169,7 @@ headline_of_usage words s k k2 d w (Err Write) is sent = record {
   source_failed = λ e. cc;
   sink_failed = λ e. sent.cause;
   only_usage = λ e. cc;
-  runs = λ yes_run. cc;
+  runs = λ bus names. cc;
   refuses = λ no_run. record { answers = inr (inl refl); writes = (sent.part, inl (inr (inl refl))); source = refl; disk = refl };
 }
 headline_of_usage words s k k2 d w (Err Memory) is sent = record {
@@ -150,6 +181,6 @@ headline_of_usage words s k k2 d w (Err Memory) is sent = record {
   source_failed = λ e. cc;
   sink_failed = λ e. cc;
   only_usage = λ e. cc;
-  runs = λ yes_run. cc;
+  runs = λ bus names. cc;
   refuses = λ no_run. record { answers = inr (inr refl); writes = (sent.part, inl (inr (inr refl))); source = refl; disk = refl };
 }

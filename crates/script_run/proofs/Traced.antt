@@ -1,4 +1,5 @@
 use Rattle.std.proofs.Common.{◌≡◌, ℕ, ◌+◌, ◌-◌, ◌^◌, [], refl, sym, ◌∙◌, ap, arith, min}
+use Rattle.vt_types.specs.declared.device.BusKind.TheVariants.{Mmio}
 use Rattle.vt_types.specs.Program.{Program, Do, Mark, End, Gives, got}
 use Rattle.script_run.specs.Lowering.{Ended}
 use Rattle.script_run.specs.Machine.{MachineView, MachineStep, counted}
@@ -21,7 +22,7 @@ counted_min c m e = rw e (omega arith)
 
 -- what a program gives over the machine is its trace without events
 pub traced : (program : Program Ended) (m m2 : MachineView) (e : Ended) (count : ℕ) → m.count ≡ min count (2 ^ 32 - 1)
-    → Gives MachineStep MachineMark program m e m2 → IsTraced (trace_from program m.raw [] count 0 0) e m2
+    → Gives MachineStep MachineMark program m e m2 → IsTraced (trace_from Mmio program m.raw [] count 0 0) e m2
 traced (Do a rest) m m2 e count start (answer, room, room2, mid, step, gives) =
     let tail = traced (rest answer (got answer room2)) mid m2 e (count + 1) (step.counts ∙ counted_min count m.count start) gives in
     rw step.table (record { reply = tail.reply; known = tail.known; raw = tail.raw; count = tail.count; place = tail.place })

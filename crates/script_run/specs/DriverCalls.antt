@@ -1,10 +1,11 @@
 use Rattle.std.specs.Prelude.{◌≡◌, ℕ, ◌+◌, ◌/◌, ◌%◌, ◌^◌, ◌<◌, List, IfSome, Option, Some, None, slice_get, slice_set}
+use Rattle.vt_types.specs.declared.TheConstants.{MAX_QUEUE}
 use Rattle.vt_types.specs.declared.access.Answer.{Answer}
 use Rattle.vt_types.specs.Access.{AccessValue, Load, Store, Zero}
 use Rattle.vt_types.specs.Program.{Program, Gives}
 use Rattle.vt_types.specs.Reply.{ReplyValue}
 use Rattle.vq_common.specs.Queue.{DriverQueue}
-use Rattle.script_run.specs.Lowering.{DriverRecord, Ended, QUEUE_AREAS, on_queue, page, queue_block, with_driver_queue, word_of}
+use Rattle.script_run.specs.Lowering.{DriverRecord, Ended, QUEUE_AREAS, queue_program, page, queue_block, with_driver_queue, word_of}
 
 -- what the parts of the console's driver do over a port's step
 
@@ -35,14 +36,14 @@ pub record GivesOnSet {P : Type 0} (step : P → AccessValue → Answer → List
 -- the same of a queue that may not be set
 pub record GivesOnQueue {P : Type 0} (step : P → AccessValue → Answer → List ℕ → List ℕ → P → Type 0) (marking : P → P → Type 0) (program : DriverRecord → ℕ → DriverQueue → Program Ended) (old : Option DriverQueue) (p : P) (r : ReplyValue) (new : Option DriverQueue) (p2 : P) : Type 0 where
   pub gives : (known : DriverRecord) (n : ℕ) → slice_get known.queues n ≡ Some old
-      → Gives step marking (on_queue known n (program known n)) p (record { reply = r; known = record known { queues = slice_set known.queues n new } }) p2
+      → Gives step marking (queue_program known n (program known n)) p (record { reply = r; known = record known { queues = slice_set known.queues n new } }) p2
 
 -- the record of a queue, where it is set
 abbrev pub queue_if : Option ℕ → DriverQueue → Option DriverQueue
 queue_if None q = None
 queue_if (Some size) q = Some q
 
--- what is known of the end of a queue: it may have 256 descriptors, and where the queue is set it has this size
+-- what is known of the end of a queue: it may have MAX_QUEUE descriptors, and where the queue is set it has this size
 pub record IsEnd (held : Option ℕ) (q : DriverQueue) (most : ℕ) : Type 0 where
-  pub greatest : most ≡ 256
+  pub greatest : most ≡ MAX_QUEUE
   pub size : IfSome held (λ n. (q.cfg.size ≡ n) × (0 < n))

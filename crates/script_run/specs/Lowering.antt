@@ -1,4 +1,9 @@
 use Rattle.std.specs.Prelude.{ℕ, ◌+◌, ◌*◌, ◌/◌, ◌%◌, ◌^◌, List, Bool, true, false, Option, Some, None, ◌&&◌, nat_lt, length, replicate, slice_get, slice_set, IsTrue, if◌then◌else◌}
+use Rattle.std.specs.Option.{option_flatten}
+use Rattle.vt_types.specs.Device.{queue_count}
+use Rattle.vt_types.specs.declared.device.Dev.TheVariants.{Con}
+use Rattle.vt_types.specs.declared.device.BusKind.{BusKind}
+use Rattle.vt_types.specs.declared.device.BusKind.TheVariants.{Mmio}
 use Rattle.vt_types.specs.declared.access.Answer.{Answer}
 use Rattle.vt_types.specs.declared.access.Answer.TheVariants as answer
 use Rattle.vt_types.specs.declared.operation.Step.{Step}
@@ -11,13 +16,13 @@ use Rattle.vt_types.specs.Reply.{ReplyValue}
 use Rattle.vt_types.specs.Reply as reply
 use Rattle.vq_common.specs.declared.chain.RingCfg.{RingCfg}
 use Rattle.vq_common.specs.Buffer.{IsPostable}
-use Rattle.vq_common.specs.Map.{driver_area, device_area}
+use Rattle.vq_common.specs.Map.{BLOCK_LEN, driver_area, device_area}
 use Rattle.vq_common.specs.Queue.{DriverQueue, ReapedValue, new_driver_queue, post_program, holds_tag, free_slots, slots_of}
 use Rattle.vq_split_drv.specs.Post.{split_post_accesses, split_posted}
 use Rattle.vq_split_drv.specs.Reap.{split_reap_program}
-use Rattle.dev_status.specs.Status.{has_bits}
+use Rattle.dev_status.specs.Status.{INDIRECT_DESC, EVENT_IDX, has_bits}
 use Rattle.abstract_devices.specs.Operate.{status_of_step}
-use Rattle.script_run.specs.MmioTable.{CONSOLE_PAGE, INDIRECT_DESC, EVENT_IDX, is_queue_size}
+use Rattle.script_run.specs.MmioTable.{CONSOLE_PAGE, is_queue_size}
 
 -- what a driver keeps of its device: probed, reset since, the status that it last read back, the accepted features, and
 -- its queues that are set
@@ -28,19 +33,20 @@ pub record DriverRecord : Type 0 where
   pub accepted : ℕ
   pub queues : List (Option DriverQueue)
 
--- before the probe; the console has two queues
+-- before the probe
 abbrev pub new_record : DriverRecord
-new_record = record { probed = false; reset_since = false; status = 0; accepted = 0; queues = replicate 2 None }
+new_record = record { probed = false; reset_since = false; status = 0; accepted = 0; queues = replicate (queue_count Con) None }
 
 -- a reply, and the record after the operation
 pub record Ended : Type 0 where
   pub reply : ReplyValue
   pub known : DriverRecord
 
+-- the end of a program
 abbrev pub ends : ReplyValue → DriverRecord → Program Ended
 ends r known = End (record { reply = r; known = known })
 
--- a register of the console's page
+-- the address of a register of the console's page, by its offset
 abbrev pub page : ℕ → ℕ
 page offset = CONSOLE_PAGE + offset
 
@@ -55,8 +61,9 @@ status_in a = word_of a % 2 ^ 8
 
 -- where the queue block of a console queue begins: the fourth and the fifth of the memory map (our own)
 abbrev pub queue_block : ℕ → ℕ
-queue_block n = (n + 4) * 0x1000000
+queue_block n = (n + 4) * BLOCK_LEN
 
+-- a load and a store of a register, and what follows
 abbrev pub load : ℕ → (Answer → Program Ended) → Program Ended
 load offset next = Do (Load (page offset) 4) (λ a _. next a)
 
@@ -71,7 +78,7 @@ probe_program known =
 -- the status is made 0, and read back
 abbrev pub reset_program : DriverRecord → Program Ended
 reset_program known =
-    store 0x070 0 (Mark (load 0x070 (λ s. ends reply.Good (record known { reset_since = true; status = status_in s; accepted = 0; queues = replicate 2 None }))))
+    store 0x070 0 (Mark (load 0x070 (λ s. ends reply.Good (record known { reset_since = true; status = status_in s; accepted = 0; queues = replicate (queue_count Con) None }))))
 
 -- both words of the driver's features
 abbrev pub accept_program : DriverRecord → ℕ → Program Ended
@@ -95,6 +102,7 @@ cfg_of known n size =
       event_idx = has_bits known.accepted EVENT_IDX;
     }
 
+-- the record with a queue that is set
 abbrev pub with_driver_queue : DriverRecord → ℕ → DriverQueue → DriverRecord
 with_driver_queue known n q = record known { queues = slice_set known.queues n (Some q) }
 
@@ -129,51 +137,57 @@ post_refusal q b =
     else (if b.indirect && nat_lt q.cfg.size (length b.lengths) then Some why.Range
     else None))
 
+-- the reply of a post, and the end of it
 abbrev pub post_reply : Bool → ReplyValue
 post_reply posted = if posted then reply.Good else reply.Refused why.Full
 
-abbrev pub post_end : DriverRecord → ℕ → Bool × DriverQueue → Program Ended
-post_end known n p = ends (post_reply p.0) (with_driver_queue known n p.1)
+abbrev pub end_of_post : DriverRecord → ℕ → Bool × DriverQueue → Program Ended
+end_of_post known n p = ends (post_reply p.0) (with_driver_queue known n p.1)
 
+-- a program, or a refusal without an access
 abbrev pub unless_refused : DriverRecord → Option Why → Program Ended → Program Ended
 unless_refused known None program = program
 unless_refused known (Some w) program = ends (reply.Refused w) known
 
+-- a post to a queue that is set
 abbrev pub post_queue : DriverRecord → ℕ → PostedBuffer → DriverQueue → Program Ended
 post_queue known n b q =
-    unless_refused known (post_refusal q b) (and_then (post_program split_post_accesses split_posted q b) (post_end known n))
+    unless_refused known (post_refusal q b) (and_then (post_program split_post_accesses split_posted q b) (end_of_post known n))
 
+-- the reply of a reap, and the end of it
 abbrev pub reap_reply : Option ReapedValue → ReplyValue
 reap_reply None = reply.Nothing
 reap_reply (Some r) = reply.Used r.tag r.len r.bytes
 
-abbrev pub reap_end : DriverRecord → ℕ → Option ReapedValue × DriverQueue → Program Ended
-reap_end known n p = ends (reap_reply p.0) (with_driver_queue known n p.1)
+abbrev pub end_of_reap : DriverRecord → ℕ → Option ReapedValue × DriverQueue → Program Ended
+end_of_reap known n p = ends (reap_reply p.0) (with_driver_queue known n p.1)
 
-abbrev pub join : {X : Type 0} → Option (Option X) → Option X
-join None = None
-join (Some x) = x
-
--- a program of a queue that is set
+-- a program of a queue that is set; one that isn't set refuses
 abbrev pub if_set : DriverRecord → ℕ → (DriverQueue → Program Ended) → Option DriverQueue → Program Ended
 if_set known n program None = ends (reply.Refused why.Unset) known
 if_set known n program (Some q) = program q
 
-abbrev pub on_queue : DriverRecord → ℕ → (DriverQueue → Program Ended) → Program Ended
-on_queue known n program = if_set known n program (join (slice_get known.queues n))
+-- a program of the queue of a number
+abbrev pub queue_program : DriverRecord → ℕ → (DriverQueue → Program Ended) → Program Ended
+queue_program known n program = if_set known n program (option_flatten (slice_get known.queues n))
 
--- the lowering: the accesses of an operation on the console over MMIO, and what its answers give; an operation that
+-- the accesses of an operation on the console over MMIO, and what its answers give; an operation that
 -- today's scripts don't have makes no access
-abbrev pub console_program : DriverRecord → Operation → Program Ended
-console_program known (Probe dev) = probe_program known
-console_program known (Reset dev) = reset_program known
-console_program known (Accept dev features) = accept_program known features
-console_program known (SetStatus dev s) = status_program known s
-console_program known (SetQueue dev n size) = setq_program known n size
-console_program known (Post dev n b) = on_queue known n (post_queue known n b)
-console_program known (Notify dev n) = notify_program known n
-console_program known (Reap dev n) = on_queue known n (λ q. and_then (split_reap_program q) (reap_end known n))
-console_program known _ = ends (reply.Refused why.State) known
+abbrev pub mmio_program : DriverRecord → Operation → Program Ended
+mmio_program known (Probe dev) = probe_program known
+mmio_program known (Reset dev) = reset_program known
+mmio_program known (Accept dev features) = accept_program known features
+mmio_program known (SetStatus dev s) = status_program known s
+mmio_program known (SetQueue dev n size) = setq_program known n size
+mmio_program known (Post dev n b) = queue_program known n (post_queue known n b)
+mmio_program known (Notify dev n) = notify_program known n
+mmio_program known (Reap dev n) = queue_program known n (λ q. and_then (split_reap_program q) (end_of_reap known n))
+mmio_program known _ = ends (reply.Refused why.State) known
+
+-- the lowering of an operation on a bus; no bus but MMIO is there yet
+abbrev pub lowering : BusKind → DriverRecord → Operation → Program Ended
+lowering Mmio known op = mmio_program known op
+lowering _ known op = ends (reply.Refused why.State) known
 
 -- an operation that may be run: a queue's size is one that QueueNum may have, and a posted buffer is postable
 abbrev pub IsRunnable : Operation → Type 0

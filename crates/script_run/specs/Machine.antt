@@ -1,8 +1,7 @@
-use Rattle.std.specs.Prelude.{◌≡◌, ℕ, ◌+◌, ◌-◌, ◌^◌, min, List, Bool, true, false}
+use Rattle.std.specs.Prelude.{◌≡◌, ℕ, ◌+◌, ◌-◌, ◌^◌, min, List, false}
 use Rattle.vt_types.specs.declared.access.Answer.{Answer}
-use Rattle.vt_types.specs.declared.access.Answer.TheVariants as answer
 use Rattle.vt_types.specs.Access.{AccessValue}
-use Rattle.vt_types.specs.Program.{got}
+use Rattle.vt_types.specs.Program.{got, is_got}
 use Rattle.script_run.specs.MmioTable.{mmio_table}
 use Rattle.script_run.specs.RawState.{RawState}
 
@@ -17,14 +16,10 @@ pub record MachineView : Type 0 where
 abbrev pub counted : ℕ → ℕ
 counted n = min (n + 1) (2 ^ 32 - 1)
 
-abbrev pub is_got : Answer → Bool
-is_got answer.Got = true
-is_got _ = false
-
 -- one access of the machine: the answer, the bytes that come with it and the raw state are the table's; it is counted;
 -- the room is as before unless bytes came
 pub record MachineStep (old : MachineView) (a : AccessValue) (answer : Answer) (room room2 : List ℕ) (new : MachineView) : Type 0 where
-  pub table : mmio_table old.raw a ≡ record { answer = answer; bytes = got answer room2; raw = new.raw }
+  pub table : mmio_table a old.raw ≡ (answer, got answer room2, new.raw)
   pub counts : new.count ≡ counted old.count
   pub spares : new.spare ≡ old.spare
   pub leaves : is_got answer ≡ false → room2 ≡ room

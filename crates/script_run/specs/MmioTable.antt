@@ -1,13 +1,13 @@
-use Rattle.std.specs.Prelude.{ℕ, ◌+◌, ◌-◌, ◌*◌, ◌/◌, ◌%◌, ◌^◌, ◌==◌, ◌&&◌, ◌||◌, not, nat_le, nat_lt, List, [], length, replicate, Bool, true, false, Option, Some, None, slice_get, slice_set, if◌then◌else◌}
+use Rattle.std.specs.Prelude.{ℕ, ◌+◌, ◌-◌, ◌*◌, ◌/◌, ◌%◌, ◌^◌, ◌==◌, ◌&&◌, not, nat_le, nat_lt, List, [], length, Bool, true, false, Option, Some, None, is_some, slice_get, slice_set, if◌then◌else◌}
 use Rattle.std.specs.Int.RustNames.{bit_and}
-use Rattle.byteorder.specs.Endian.{big_bytes, big_number}
-use Rattle.guest_mem.specs.Memory.{part, put_at}
 use Rattle.vt_types.specs.declared.access.Answer.{Answer}
 use Rattle.vt_types.specs.declared.access.Answer.TheVariants as answer
 use Rattle.vt_types.specs.Access.{AccessValue}
 use Rattle.vt_types.specs.Access as access
-use Rattle.vq_common.specs.Queue.{DeviceQueue, new_device_queue}
-use Rattle.dev_status.specs.Status.{write_of, accept_of, feature_word, has_bits}
+use Rattle.vt_types.specs.declared.TheConstants.{MAX_QUEUE}
+use Rattle.memory_port.specs.MemoryTable.{memory_table}
+use Rattle.vq_common.specs.Queue.{DeviceQueue, new_device_queue, is_ring_size}
+use Rattle.dev_status.specs.Status.{INDIRECT_DESC, EVENT_IDX, write_of, accept_of, feature_word, has_bits}
 use Rattle.script_run.specs.declared.mmio_regs.Register.{Register}
 use Rattle.script_run.specs.declared.mmio_regs.Register.TheVariants.{MagicValue, Version, DeviceId, VendorId, DeviceFeatures, DeviceFeaturesSel, DriverFeatures, DriverFeaturesSel, QueueSel, QueueNumMax, QueueNum, QueueReady, QueueNotify, InterruptStatus, InterruptAck, Status, QueueDescLow, QueueDescHigh, QueueDriverLow, QueueDriverHigh, QueueDeviceLow, QueueDeviceHigh, Nothing}
 use Rattle.script_run.specs.RawState.{RawState, RawDevice, RawQueue, new_raw_device}
@@ -52,21 +52,19 @@ register_for addr width =
 abbrev pub selected : RawDevice → Option RawQueue
 selected d = slice_get d.queues d.queue_select
 
-abbrev pub is_ready : Option DeviceQueue → Bool
-is_ready None = false
-is_ready (Some q) = true
+-- the number in a register of one bit
+abbrev pub bit_of : Bool → ℕ
+bit_of b = if b then 1 else 0
 
-abbrev pub number_of : Bool → ℕ
-number_of b = if b then 1 else 0
-
--- what the registers of the selected queue load; 0 where there is no such queue
+-- the greatest size of the selected queue; 0 where there is no such queue
 abbrev pub queue_number_max : Option RawQueue → ℕ
 queue_number_max None = 0
-queue_number_max (Some q) = 256
+queue_number_max (Some q) = MAX_QUEUE
 
+-- and whether it is set
 abbrev pub queue_ready : Option RawQueue → ℕ
 queue_ready None = 0
-queue_ready (Some q) = number_of (is_ready q.ring)
+queue_ready (Some q) = bit_of (is_some q.ring)
 
 -- what a register loads (VIRTIO 1.2, 4.2.2); a register that is only stored loads 0
 abbrev pub load_of : RawDevice → Register → ℕ
@@ -88,27 +86,22 @@ with_low addr word = addr / 2 ^ 32 * 2 ^ 32 + word
 abbrev pub with_high : ℕ → ℕ → ℕ
 with_high addr word = addr % 2 ^ 32 + word * 2 ^ 32
 
--- a change of the selected queue, where there is one
-abbrev pub change_selected : RawDevice → (RawQueue → RawQueue) → Option RawQueue → RawDevice
-change_selected d f None = d
-change_selected d f (Some q) = record d { queues = slice_set d.queues d.queue_select (f q) }
+-- a change of the queue of a number, where there is one
+abbrev pub change_at : RawDevice → ℕ → (RawQueue → RawQueue) → Option RawQueue → RawDevice
+change_at d n f None = d
+change_at d n f (Some q) = record d { queues = slice_set d.queues n (f q) }
 
+-- a change of the queue that QueueSel names
 abbrev pub on_selected : RawDevice → (RawQueue → RawQueue) → RawDevice
-on_selected d f = change_selected d f (selected d)
+on_selected d f = change_at d d.queue_select f (selected d)
 
 -- a change that a queue takes only while it is not set
 abbrev pub unless_ready : RawQueue → RawQueue → RawQueue
-unless_ready q changed = if is_ready q.ring then q else changed
+unless_ready q changed = if is_some q.ring then q else changed
 
--- the sizes that QueueNum may have: the powers of two from 1 to 256
+-- the sizes that QueueNum may have: the powers of two up to QueueNumMax (VIRTIO 1.2, 2.7 and 4.2.2)
 abbrev pub is_queue_size : ℕ → Bool
-is_queue_size n = n == 1 || n == 2 || n == 4 || n == 8 || n == 16 || n == 32 || n == 64 || n == 128 || n == 256
-
-abbrev pub INDIRECT_DESC : ℕ
-INDIRECT_DESC = 0x10000000
-
-abbrev pub EVENT_IDX : ℕ
-EVENT_IDX = 0x20000000
+is_queue_size n = is_ring_size n && nat_le n MAX_QUEUE
 
 -- the ring that the registers of a queue describe; the two features are those that are accepted now
 abbrev pub ring_of : ℕ → RawQueue → DeviceQueue
@@ -126,7 +119,7 @@ ring_of accepted q =
 abbrev pub set_ready : ℕ → ℕ → RawQueue → RawQueue
 set_ready accepted value q =
     if value == 1
-    then (if not (is_ready q.ring) && is_queue_size q.num then record q { ring = Some (ring_of accepted q); kick = false } else q)
+    then (if not (is_some q.ring) && is_queue_size q.num then record q { ring = Some (ring_of accepted q); kick = false } else q)
     else (if value == 0 then record q { ring = None; kick = false } else q)
 
 -- what a store to a register of a queue leaves of it
@@ -143,11 +136,7 @@ queue_store accepted _ value q = q
 
 -- a queue that is set is kicked
 abbrev pub kicked : RawQueue → RawQueue
-kicked q = if is_ready q.ring then record q { kick = true } else q
-
-abbrev pub change_at : RawDevice → ℕ → (RawQueue → RawQueue) → Option RawQueue → RawDevice
-change_at d n f None = d
-change_at d n f (Some q) = record d { queues = slice_set d.queues n (f q) }
+kicked q = if is_some q.ring then record q { kick = true } else q
 
 -- a write of the status; 0 resets the device with its registers
 abbrev pub store_status : RawDevice → ℕ → RawDevice
@@ -176,26 +165,17 @@ store_of d QueueDeviceLow value = on_selected d (queue_store d.status.accepted Q
 store_of d QueueDeviceHigh value = on_selected d (queue_store d.status.accepted QueueDeviceHigh value)
 store_of d _ value = d
 
--- an answer, the bytes that come with it, and the raw machine after the access
-pub record Accessed : Type 0 where
-  pub answer : Answer
-  pub bytes : List ℕ
-  pub raw : RawState
+-- a register's answer: no bytes come with it
+abbrev pub only : Answer → RawState → Answer × List ℕ × RawState
+only a raw = (a, [], raw)
 
-abbrev pub only : Answer → RawState → Accessed
-only a raw = record { answer = a; bytes = []; raw = raw }
+-- an access of guest memory leaves the registers
+abbrev pub on_memory : RawState → Answer × List ℕ × List ℕ → Answer × List ℕ × RawState
+on_memory raw r = (r.0, r.1, record raw { memory = r.2 })
 
--- an access of guest memory: outside exactly where its range passes the end, and then nothing changes
-abbrev pub if_inside : RawState → ℕ → ℕ → Accessed → Accessed
-if_inside raw addr count inside = if nat_le (addr + count) (length raw.memory) then inside else only answer.Outside raw
-
--- the MMIO table: what each access answers and leaves; a bus of this kind has no configuration space and no channel
-abbrev pub mmio_table : RawState → AccessValue → Accessed
-mmio_table raw (access.Load addr width) = only (answer.Word (load_of raw.con (register_for addr width))) raw
-mmio_table raw (access.Store addr width value) = only answer.Done (record raw { con = store_of raw.con (register_for addr width) value })
-mmio_table raw (access.Put addr bytes) = if_inside raw addr (length bytes) (only answer.Done (record raw { memory = put_at raw.memory addr bytes }))
-mmio_table raw (access.Get addr count) = if_inside raw addr count (record { answer = answer.Got; bytes = part raw.memory addr count; raw = raw })
-mmio_table raw (access.Zero addr count) = if_inside raw addr count (only answer.Done (record raw { memory = put_at raw.memory addr (replicate count 0) }))
-mmio_table raw (access.Swap addr value) =
-    if_inside raw addr 8 (only (answer.Word (big_number 8 (part raw.memory addr 8))) (record raw { memory = put_at raw.memory addr (big_bytes 8 value) }))
-mmio_table raw _ = only answer.NoSuch raw
+-- the MMIO table: what an access answers, the bytes that come with it, and the raw machine after it; a bus of this kind
+-- has registers and guest memory, and no configuration space and no channel
+abbrev pub mmio_table : AccessValue → RawState → Answer × List ℕ × RawState
+mmio_table (access.Load addr width) raw = only (answer.Word (load_of raw.con (register_for addr width))) raw
+mmio_table (access.Store addr width value) raw = only answer.Done (record raw { con = store_of raw.con (register_for addr width) value })
+mmio_table a raw = on_memory raw (memory_table a raw.memory)

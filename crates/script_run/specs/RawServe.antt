@@ -1,4 +1,4 @@
-use Rattle.std.specs.Prelude.{ℕ, ◌==◌, ◌&&◌, not, List, [], ◌∷◌, length, Bool, true, false, Option, Some, None, slice_get, slice_set, if◌then◌else◌}
+use Rattle.std.specs.Prelude.{ℕ, ◌==◌, ◌&&◌, not, nat_lt, List, [], ◌∷◌, length, Bool, true, false, Option, Some, None, slice_get, slice_set, if◌then◌else◌}
 use Rattle.std.specs.Int.RustNames.{bit_or}
 use Rattle.vt_types.specs.declared.device.Dev.{Dev}
 use Rattle.vt_types.specs.declared.device.Dev.TheVariants.{Con}
@@ -10,10 +10,11 @@ use Rattle.vq_common.specs.Piece.{readable, room, scatter}
 use Rattle.vq_common.specs.Queue.{DeviceQueue, Given}
 use Rattle.vq_split_dev.specs.Walk.{split_walk, split_taken}
 use Rattle.vq_split_dev.specs.Give.{split_given}
-use Rattle.dev_status.specs.Status.{has_bits, needs_reset_of, DRIVER_OK, DEVICE_NEEDS_RESET}
+use Rattle.dev_status.specs.Status.{StatusState, has_bits, needs_reset_of, DRIVER_OK, DEVICE_NEEDS_RESET}
 use Rattle.dev_console.specs.Console.{ConsoleAnswer, console_answer, with_input}
 use Rattle.script_run.specs.RawState.{RawState, RawDevice, RawQueue}
 
+-- the device with another queue
 abbrev pub with_raw_queue : RawDevice → ℕ → RawQueue → RawDevice
 with_raw_queue d n q = record d { queues = slice_set d.queues n q }
 
@@ -43,20 +44,18 @@ serve_walked raw n q ring Bad =
 serve_walked raw n q ring (Front c) =
     give_answer raw n q ring c (console_answer n (readable raw.memory c.pieces) (room c.pieces) raw.waiting raw.console)
 
-abbrev pub is_input_there : List ℕ → Bool
-is_input_there [] = false
-is_input_there (b ∷ bs) = true
-
 -- a queue is served where DRIVER_OK stands and DEVICE_NEEDS_RESET does not, and it was kicked; the receive queue only
 -- where input waits
-abbrev pub may_serve : RawState → ℕ → RawQueue → Bool
-may_serve raw n q =
-    has_bits raw.con.status.status DRIVER_OK && not (has_bits raw.con.status.status DEVICE_NEEDS_RESET) && q.kick && (if n == 0 then is_input_there raw.waiting else true)
+abbrev pub may_serve : StatusState → ℕ → Bool → RawQueue → Bool
+may_serve s n input q =
+    has_bits s.status DRIVER_OK && not (has_bits s.status DEVICE_NEEDS_RESET) && q.kick && (if n == 0 then input else true)
 
+-- a queue that isn't set is not served
 abbrev pub serve_ring : RawState → ℕ → RawQueue → Option DeviceQueue → RawState
 serve_ring raw n q None = raw
-serve_ring raw n q (Some ring) = if may_serve raw n q then serve_walked raw n q ring (split_walk raw.memory ring) else raw
+serve_ring raw n q (Some ring) = if may_serve raw.con.status n (nat_lt 0 (length raw.waiting)) q then serve_walked raw n q ring (split_walk raw.memory ring) else raw
 
+-- nor is one that the device doesn't have
 abbrev pub serve_queue : RawState → ℕ → Option RawQueue → RawState
 serve_queue raw n None = raw
 serve_queue raw n (Some q) = serve_ring raw n q q.ring
@@ -72,6 +71,7 @@ raw_event raw (event.Serve dev n) = raw_serve raw dev n
 raw_event raw (event.Key bytes) = record raw { waiting = with_input raw.waiting bytes }
 raw_event raw _ = raw
 
+-- events one after the other
 abbrev pub raw_events : RawState → List EventAt → RawState
 raw_events raw [] = raw
 raw_events raw (e ∷ es) = raw_events (raw_event raw e.event) es

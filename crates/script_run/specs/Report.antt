@@ -3,7 +3,7 @@ use Rattle.std.specs.Fmt.{decimal}
 use Rattle.std.specs.List.{list_all}
 use Rattle.byteorder.specs.Endian.{big_bytes}
 use Rattle.hex.specs.Hex.{encode_lower}
-use Rattle.vt_types.specs.declared.device.BusKind.TheVariants.{Mmio}
+use Rattle.vt_types.specs.declared.device.BusKind.{BusKind}
 use Rattle.vt_types.specs.declared.reply.Why.{Why}
 use Rattle.vt_types.specs.declared.reply.Why.TheVariants as why
 use Rattle.vt_types.specs.Reply.{ReplyValue}
@@ -26,6 +26,7 @@ abbrev pub spaced : List ℕ → List ℕ
 spaced [] = []
 spaced (n ∷ ns) = codes " " ++ decimal n ++ spaced ns
 
+-- the name of a refusal
 abbrev pub why_text : Why → List ℕ
 why_text why.State = codes "state"
 why_text why.Queue = codes "queue"
@@ -37,6 +38,7 @@ why_text why.Full = codes "full"
 why_text why.Range = codes "range"
 why_text why.Mode = codes "mode"
 
+-- the queues that signalled
 abbrev pub signals_text : List ℕ → List ℕ
 signals_text [] = codes "irq none"
 signals_text (n ∷ ns) = codes "irq" ++ spaced (n ∷ ns)
@@ -60,26 +62,45 @@ abbrev pub reply_line : ℕ → ReplyValue → ℕ → ℕ → List ℕ
 reply_line line r p n =
     decimal line ++ codes " " ++ reply_text r ++ codes " p=" ++ decimal p ++ codes " n=" ++ decimal n ++ codes "\n"
 
+-- a line for each sent frame
 abbrev pub frame_lines : List (List ℕ) → List ℕ
 frame_lines [] = []
 frame_lines (f ∷ fs) = codes "frame " ++ hex f ++ codes "\n" ++ frame_lines fs
 
+-- the sent frames, after their number
+abbrev pub frames_text : List (List ℕ) → List ℕ
+frames_text sent = codes "frames " ++ decimal (length sent) ++ codes "\n" ++ frame_lines sent
+
+-- the console bytes
+abbrev pub console_line : List ℕ → List ℕ
+console_line console = codes "console " ++ hex console ++ codes "\n"
+
+-- the line of a sector that isn't all zeros
 abbrev pub sector_line : ℕ → List ℕ → List ℕ
 sector_line n bytes = codes "sector " ++ decimal n ++ codes " " ++ hex bytes ++ codes "\n"
 
--- a line for each sector that isn't all zeros, rising
+-- that line, where it is due
+abbrev pub sector_text : ℕ → List ℕ → List ℕ
+sector_text n bytes = if list_all (λ b. b == 0) bytes then [] else sector_line n bytes
+
+-- the lines of sectors that are numbered from n on
 abbrev pub sector_lines : ℕ → List (List ℕ) → List ℕ
 sector_lines n [] = []
-sector_lines n (s ∷ ss) = (if list_all (λ b. b == 0) s then [] else sector_line n s) ++ sector_lines (n + 1) ss
+sector_lines n (s ∷ ss) = sector_text n s ++ sector_lines (n + 1) ss
+
+-- the number of sectors
+abbrev pub disk_line : ℕ → List ℕ
+disk_line n = codes "disk " ++ decimal n ++ codes "\n"
+
+-- the disk, and the end
+abbrev pub disk_text : List (List ℕ) → List ℕ
+disk_text sectors = disk_line (length sectors) ++ sector_lines 0 sectors ++ codes "end\n"
 
 -- the end parts: the sent frames, the console bytes, the disk
 abbrev pub end_text : List (List ℕ) → List ℕ → List (List ℕ) → List ℕ
-end_text sent console sectors =
-    codes "frames " ++ decimal (length sent) ++ codes "\n" ++ frame_lines sent
-    ++ codes "console " ++ hex console ++ codes "\n"
-    ++ codes "disk " ++ decimal (length sectors) ++ codes "\n" ++ sector_lines 0 sectors
-    ++ codes "end\n"
+end_text sent console sectors = frames_text sent ++ console_line console ++ disk_text sectors
 
+-- those of a world
 abbrev pub end_parts : World → List ℕ
 end_parts w = end_text w.sent w.console w.disk.sectors
 
@@ -89,26 +110,27 @@ pub record Report : Type 0 where
   pub status : ℕ
   pub image : List (List ℕ)
 
+-- a report with what is written before it
 abbrev pub before : List ℕ → Report → Report
 before text r = record r { text = text ++ r.text }
 
 -- a line of a script on the abstract devices, the raw machine and the driver's record, and then the rest: the reply is
 -- that of the abstract devices, with the operation placed where the trace has its marked access
-abbrev pub line_report : ℕ → ScriptLine → World → RawState → DriverRecord → (World → RawState → DriverRecord → Report) → Report
-line_report k (Happens e) w raw known rest = rest (happen w e) (raw_event raw e) known
-line_report k (Operates op events) w raw known rest =
-    let t = trace_of raw known op events in
-    let o = placed_line Mmio w op events t.place in
+abbrev pub line_report : BusKind → ℕ → ScriptLine → World → RawState → DriverRecord → (World → RawState → DriverRecord → Report) → Report
+line_report bus k (Happens e) w raw known rest = rest (happen w e) (raw_event raw e) known
+line_report bus k (Operates op events) w raw known rest =
+    let t = trace_of bus raw known op events in
+    let o = placed_line bus w op events t.place in
     before (reply_line k o.reply t.place t.count) (rest o.world t.raw t.known)
 
 -- the report of a script after k lines
-abbrev pub report_from : Script → ℕ → World → RawState → DriverRecord → Report
-report_from Ends k w raw known = record { text = end_parts w; status = 0; image = w.disk.sectors }
-report_from BadLine k w raw known = record { text = codes "fault " ++ decimal (k + 1) ++ codes "\n"; status = 3; image = w.disk.sectors }
-report_from TooLong k w raw known = record { text = codes "too long\n"; status = 7; image = w.disk.sectors }
-report_from (Line line rest) k w raw known =
-    line_report (k + 1) line w raw known (λ w2 raw2 known2. report_from rest (k + 1) w2 raw2 known2)
+abbrev pub report_from : BusKind → Script → ℕ → World → RawState → DriverRecord → Report
+report_from bus Ends k w raw known = record { text = end_parts w; status = 0; image = w.disk.sectors }
+report_from bus BadLine k w raw known = record { text = codes "fault " ++ decimal (k + 1) ++ codes "\n"; status = 3; image = w.disk.sectors }
+report_from bus TooLong k w raw known = record { text = codes "too long\n"; status = 7; image = w.disk.sectors }
+report_from bus (Line line rest) k w raw known =
+    line_report bus (k + 1) line w raw known (λ w2 raw2 known2. report_from bus rest (k + 1) w2 raw2 known2)
 
--- the report of a script over MMIO, from an input and a disk
-abbrev pub report_of : List ℕ → AbstractDisk → Report
-report_of input disk = report_from (script_of input) 0 (new_world disk) new_raw_state new_record
+-- the report of a script on a bus, from an input and a disk
+abbrev pub report_of : BusKind → List ℕ → AbstractDisk → Report
+report_of bus input disk = report_from bus (script_of input) 0 (new_world disk) new_raw_state new_record

@@ -1,7 +1,8 @@
-use Rattle.std.specs.Prelude.{◌≡◌, ℕ, ◌-◌, ◌≤◌, ◌==◌, ◌^◌, ◌⊎◌, nat_lt, length, take, min, List, [], ◌++◌, Bool, true, false, Some, None, Result, Ok, Err, codes}
+use Rattle.std.specs.Prelude.{◌≡◌, ℕ, ◌+◌, ◌-◌, ◌≤◌, ◌==◌, ◌^◌, ◌⊎◌, nat_lt, length, take, min, List, [], ◌++◌, Bool, true, false, Some, None, Result, Ok, Err, IfOk, drop, codes}
 use Rattle.std.specs.Fmt.{decimal}
 use Rattle.std.specs.Bool.{MatchBool}
 use Rattle.vt_types.specs.Operation.{Operation}
+use Rattle.vt_types.specs.declared.device.BusKind.TheVariants.{Mmio}
 use Rattle.vt_types.specs.declared.operation.Event.{Event}
 use Rattle.vt_outside.specs.Disk.{DiskView}
 use Rattle.vt_outside.specs.Faults.{Rose}
@@ -11,8 +12,9 @@ use Rattle.vt_outside.specs.Text.{IsPrefixOf}
 use Rattle.abstract_devices.specs.World.{AbstractDisk, new_world}
 use Rattle.script_run.specs.declared.stop.Stop.{Stop}
 use Rattle.script_run.specs.declared.stop.Stop.TheVariants.{Read, Write, Memory}
+use Rattle.script_run.specs.Input.{TakesAtMost}
 use Rattle.script_run.specs.Lowering.{DriverRecord, IsRunnable, new_record}
-use Rattle.script_run.specs.Output.{SameDisk}
+use Rattle.script_run.specs.Output.{AllOrPart, SendCause, SameDisk}
 use Rattle.script_run.specs.RawServe.{raw_event}
 use Rattle.script_run.specs.RawState.{RawState, new_raw_state}
 use Rattle.script_run.specs.Report.{Report, report_from, report_of, reply_line, end_text}
@@ -23,10 +25,11 @@ use Rattle.script_run.specs.Trace.{trace_of}
 -- an operation without events was run: the machine and the driver are as its trace leaves them, and its reply line was
 -- added to the text
 pub record RunsOperation (k : ℕ) (op : Operation) (raw : RawState) (known : DriverRecord) (raw2 : RawState) (known2 : DriverRecord) (added : List ℕ) : Type 0 where
-  pub leaves : raw2 ≡ (trace_of raw known op []).raw
-  pub records : known2 ≡ (trace_of raw known op []).known
-  pub adds : added ≡ reply_line k (trace_of raw known op []).reply 0 (min (trace_of raw known op []).count (2 ^ 32 - 1))
+  pub leaves : raw2 ≡ (trace_of Mmio raw known op []).raw
+  pub records : known2 ≡ (trace_of Mmio raw known op []).known
+  pub adds : added ≡ reply_line k (trace_of Mmio raw known op []).reply 0 (min (trace_of Mmio raw known op []).count (2 ^ 32 - 1))
 
+-- an event happened: it writes nothing
 pub record RunsEvent (e : Event) (raw : RawState) (known : DriverRecord) (raw2 : RawState) (known2 : DriverRecord) (added : List ℕ) : Type 0 where
   pub leaves : raw2 ≡ raw_event raw e
   pub records : known2 ≡ known
@@ -37,6 +40,7 @@ abbrev pub RunsLine : ℕ → ScriptLine → RawState → DriverRecord → RawSt
 RunsLine k (Happens e) raw known raw2 known2 added = RunsEvent e raw known raw2 known2 added
 RunsLine k (Operates op events) raw known raw2 known2 added = RunsOperation k op raw known raw2 known2 added
 
+-- a line that may be run
 abbrev pub IsRunnableLine : ScriptLine → Type 0
 IsRunnableLine (Operates op events) = IsRunnable op
 IsRunnableLine (Happens e) = Unit {0}
@@ -56,19 +60,15 @@ LinesDone r (Ok status) sent console disk =
     ((r.text ≡ sent) × (r.status ≡ status))
 LinesDone r (Err e) sent console disk = IsPrefixOf sent r.text
 
-abbrev pub LinesCause : Result ℕ Stop → SinkView → SinkView → Type 0
-LinesCause (Ok status) k k2 = Unit {0}
-LinesCause (Err Read) k k2 = ⊥
-LinesCause (Err Write) k k2 = Rose k.faults k2.faults
-LinesCause (Err Memory) k k2 = Unit {0}
-
+-- the lines of a script were run, from a source that was read whole to a sink
 pub record RunsLines (bytes : List ℕ) (more : Bool) (k k2 : SinkView) (console : List ℕ) (result : Result ℕ Stop) : Type 0 where
   pub later : k.faults ≤ k2.faults
-  pub cause : LinesCause result k k2
+  pub cause : SendCause result k k2
   pub sent : List ℕ
   pub adds : Adds k.written k2.written sent
-  pub done : (disk : AbstractDisk) → LinesDone (report_from (script_in 0 bytes more) 0 (new_world disk) new_raw_state new_record) result sent console disk
+  pub done : (disk : AbstractDisk) → LinesDone (report_from Mmio (script_in 0 bytes more) 0 (new_world disk) new_raw_state new_record) result sent console disk
 
+-- a last text, and the status after it
 abbrev pub EndingPart : Result ℕ Stop → List ℕ → List ℕ → ℕ → Type 0
 EndingPart (Ok answer) sent bytes status = (sent ≡ bytes) × (answer ≡ status)
 EndingPart (Err e) sent bytes status = IsPrefixOf sent bytes
@@ -76,17 +76,19 @@ EndingPart (Err e) sent bytes status = IsPrefixOf sent bytes
 -- a last text was sent, and the status is this one
 pub record SendsEnding (bytes : List ℕ) (status : ℕ) (k k2 : SinkView) (result : Result ℕ Stop) : Type 0 where
   pub later : k.faults ≤ k2.faults
-  pub cause : LinesCause result k k2
+  pub cause : SendCause result k k2
   pub sent : List ℕ
   pub adds : Adds k.written k2.written sent
   pub part : EndingPart result sent bytes status
 
--- an input was read whole: its bytes, and whether more came
+-- an input was read whole, or up to the first byte past the bound: its bytes, and whether more came
 abbrev pub IsInput : List ℕ → Input → Type 0
 IsInput left i = (i.bytes.items ≡ take MOST_BYTES left) × (i.more ≡ nat_lt MOST_BYTES (length left))
 
+-- what was read, or why nothing was
 abbrev pub ReadsWhat : SourceView → SourceView → Result Input Stop → Type 0
-ReadsWhat s s2 (Ok i) = ((left : List ℕ) → s.left ≡ Some left → IsInput left i) × (length i.bytes.items ≤ MOST_BYTES)
+ReadsWhat s s2 (Ok i) =
+    ((left : List ℕ) → s.left ≡ Some left → IsInput left i) × (length i.bytes.items ≤ MOST_BYTES) × ((left : List ℕ) → s.left ≡ Some left → s2.left ≡ Some (drop (MOST_BYTES + 1) left))
 ReadsWhat s s2 (Err Read) = Rose s.faults s2.faults
 ReadsWhat s s2 (Err Write) = ⊥
 ReadsWhat s s2 (Err Memory) = Unit {0}
@@ -94,6 +96,7 @@ ReadsWhat s s2 (Err Memory) = Unit {0}
 -- a source was read, or it failed, or there was no memory
 pub record ReadsInput (s s2 : SourceView) (result : Result Input Stop) : Type 0 where
   pub later : s.faults ≤ s2.faults
+  pub takes : TakesAtMost (MOST_BYTES + 1) s.left s2.left
   pub what : ReadsWhat s s2 result
 
 -- the causes of the ways in which a script may stop
@@ -108,30 +111,31 @@ abbrev pub EndsAs : Result ℕ Stop → Script → Type 0
 EndsAs (Ok status) script = status ≡ status_at_end script
 EndsAs (Err e) script = Unit {0}
 
--- the text of a script whose bytes and disk were told, where no reading of the disk failed
-abbrev pub WritesReport : Result ℕ Stop → List ℕ → List ℕ → Type 0
-WritesReport (Ok status) text whole = text ≡ whole
-WritesReport (Err e) text whole = IsPrefixOf text whole
-
 -- a script was run: from a source to a sink, beside a disk
 pub record RunsScript (s s2 : SourceView) (k k2 : SinkView) (d d2 : DiskView) (result : Result ℕ Stop) : Type 0 where
+  pub takes : TakesAtMost (MOST_BYTES + 1) s.left s2.left
   pub cause : ScriptCause result s s2 k k2
   pub disk : SameDisk d d2
   pub text : List ℕ
   pub adds : Adds k.written k2.written text
   pub ends : (input : List ℕ) → s.left ≡ Some input → EndsAs result (script_of input)
+  pub reads : (input : List ℕ) → s.left ≡ Some input → IfOk result (λ status. status ≡ 0 → s2.left ≡ Some [])
+  pub stops : (input : List ℕ) (disk : AbstractDisk) → s.left ≡ Some input → (status_at_end (script_of input) ≡ 0 → ⊥) → AllOrPart result text (report_of Mmio input disk).text
   pub report : (input : List ℕ) (image : List (List ℕ)) → s.left ≡ Some input → d.image ≡ Some image → (Rose d.faults d2.faults → ⊥)
-      → WritesReport result text (report_of input (record { sectors = image; read_only = d.locked })).text
+      → AllOrPart result text (report_of Mmio input (record { sectors = image; read_only = d.locked })).text
 
--- the status of a call
-abbrev pub number_of : Result ℕ Stop → ℕ
-number_of (Ok status) = status
-number_of (Err Read) = 4
-number_of (Err Write) = 5
-number_of (Err Memory) = 6
+-- the status of a call that stopped
+abbrev pub status_of_stop : Stop → ℕ
+status_of_stop Read = 4
+status_of_stop Write = 5
+status_of_stop Memory = 6
 
-abbrev pub usage_number : Result Unit Stop → ℕ
-usage_number (Ok x) = 2
-usage_number (Err Read) = 4
-usage_number (Err Write) = 5
-usage_number (Err Memory) = 6
+-- the status of a call that ran a script
+abbrev pub run_status : Result ℕ Stop → ℕ
+run_status (Ok status) = status
+run_status (Err stop) = status_of_stop stop
+
+-- and of one that showed the usage line
+abbrev pub usage_status : Result Unit Stop → ℕ
+usage_status (Ok x) = 2
+usage_status (Err stop) = status_of_stop stop

@@ -24,75 +24,89 @@ pub data Script : Type 0 where
   TooLong : Script
   Line : ScriptLine → Script → Script
 
--- the greatest number of bytes of a script, and of a line without its line feed
+-- the greatest number of bytes of a script
 abbrev pub MOST_BYTES : ℕ
 MOST_BYTES = 2 ^ 26
 
+-- and of a line without its line feed
 abbrev pub LONGEST_LINE : ℕ
 LONGEST_LINE = 1048576
 
--- the words of a line: what stands between spaces; `part` is the word so far
+-- a word before others; no word has no bytes
 abbrev pub joined_to : List ℕ → List (List ℕ) → List (List ℕ)
 joined_to [] words = words
 joined_to (c ∷ cs) words = (c ∷ cs) ∷ words
 
+-- the words of a line, where `part` is the first one so far
 abbrev pub words_from : List ℕ → List ℕ → List (List ℕ)
 words_from part [] = joined_to part []
 words_from part (b ∷ bytes) = if b == 32 then joined_to part (words_from [] bytes) else words_from (part ++ b ∷ []) bytes
 
+-- the words of a line: what stands between spaces
 abbrev pub words_of : List ℕ → List (List ℕ)
 words_of line = words_from [] line
 
--- a decimal number of 1 to 20 digits that is at most `most`
+-- a decimal digit
 abbrev pub is_digit : ℕ → Bool
 is_digit b = nat_le 48 b && nat_le b 57
 
+-- the number that decimal digits spell behind those of n
 abbrev pub decimal_value : ℕ → List ℕ → ℕ
 decimal_value n [] = n
 decimal_value n (b ∷ bytes) = decimal_value (10 * n + (b - 48)) bytes
 
+-- a decimal number of 1 to 20 digits that is at most `most`
 abbrev pub number_in : ℕ → List ℕ → Option ℕ
 number_in most word =
     if nat_le 1 (length word) && nat_le (length word) 20 && list_all is_digit word && nat_le (decimal_value 0 word) most
     then Some (decimal_value 0 word)
     else None
 
--- hexadecimal digits as bytes, in either case
+-- what was decoded, where it could be
 abbrev pub hex_of : Result (List ℕ) FromHexError → Option (List ℕ)
 hex_of (Ok bytes) = Some bytes
 hex_of (Err e) = None
 
+-- hexadecimal digits in pairs as bytes, in either case
 abbrev pub hex_bytes : List ℕ → Option (List ℕ)
 hex_bytes word = hex_of (decode_of word)
 
--- 16 hexadecimal digits as a number
+-- eight bytes as a number, the highest first
 abbrev pub number_of_bytes : Option (List ℕ) → Option ℕ
 number_of_bytes None = None
 number_of_bytes (Some bytes) = if length bytes == 8 then Some (big_number 8 bytes) else None
 
+-- 16 hexadecimal digits as a number
 abbrev pub features_in : List ℕ → Option ℕ
 features_in word = number_of_bytes (hex_bytes word)
 
--- a word that begins with `r:`, and 1 to 4,096 bytes in hexadecimal: a readable piece
+-- the bytes of a piece: 1 to 4,096 of them
 abbrev pub piece_if_fits : Option (List ℕ) → Option (List ℕ)
 piece_if_fits None = None
 piece_if_fits (Some bytes) = if nat_le 1 (length bytes) && nat_le (length bytes) 4096 then Some bytes else None
 
+-- a readable piece: a word that begins with `r:` and goes on with its bytes in hexadecimal
 abbrev pub piece_in : List ℕ → Option (List ℕ)
 piece_in word = if bytes_eq (take 2 word) (codes "r:") then piece_if_fits (hex_bytes (drop 2 word)) else None
+
+-- a word is this name
+abbrev pub is_word : List ℕ → List ℕ → Bool
+is_word word name = bytes_eq word name
 
 -- the line of an operation that has no events
 abbrev pub operates : Operation → Option ScriptLine
 operates op = Some (Operates op [])
 
+-- the line of `status`, by its step
 abbrev pub step_in : List ℕ → Option ScriptLine
 step_in word =
-    if bytes_eq word (codes "ack") then operates (SetStatus Con step.Ack)
-    else (if bytes_eq word (codes "driver") then operates (SetStatus Con step.Driver)
-    else (if bytes_eq word (codes "featok") then operates (SetStatus Con step.FeatOk)
-    else (if bytes_eq word (codes "drvok") then operates (SetStatus Con step.DrvOk)
+    if is_word word (codes "ack") then operates (SetStatus Con step.Ack)
+    else (if is_word word (codes "driver") then operates (SetStatus Con step.Driver)
+    else (if is_word word (codes "featok") then operates (SetStatus Con step.FeatOk)
+    else (if is_word word (codes "drvok") then operates (SetStatus Con step.DrvOk)
     else None)))
 
+-- the line of each operation, by its arguments; None where one of them is not in the grammar
 abbrev pub accept_line : Option ℕ → Option ScriptLine
 accept_line None = None
 accept_line (Some features) = operates (Accept Con features)
@@ -114,40 +128,38 @@ abbrev pub reap_line : Option ℕ → Option ScriptLine
 reap_line None = None
 reap_line (Some queue) = operates (Reap Con queue)
 
+-- the line of the event `serve`
 abbrev pub serve_line : Option ℕ → Option ScriptLine
 serve_line None = None
 serve_line (Some queue) = Some (Happens (event.Serve Con queue))
 
-abbrev pub is_word : List ℕ → List ℕ → Bool
-is_word word name = bytes_eq word name
-
 -- numbers of queues, tags and sizes have 16 bits
-abbrev pub short : List ℕ → Option ℕ
-short word = number_in 65535 word
+abbrev pub number16 : List ℕ → Option ℕ
+number16 word = number_in 65535 word
 
 -- the line that these words spell, after the name of the operation and the device
-abbrev pub console_line : List ℕ → List (List ℕ) → Option ScriptLine
-console_line name [] =
+abbrev pub line_of_console : List ℕ → List (List ℕ) → Option ScriptLine
+line_of_console name [] =
     if is_word name (codes "probe") then operates (Probe Con) else (if is_word name (codes "reset") then operates (Reset Con) else None)
-console_line name (a ∷ []) =
+line_of_console name (a ∷ []) =
     if is_word name (codes "status") then step_in a
     else (if is_word name (codes "accept") then accept_line (features_in a)
-    else (if is_word name (codes "notify") then notify_line (short a)
-    else (if is_word name (codes "reap") then reap_line (short a)
+    else (if is_word name (codes "notify") then notify_line (number16 a)
+    else (if is_word name (codes "reap") then reap_line (number16 a)
     else None)))
-console_line name (a ∷ b ∷ []) = if is_word name (codes "setq") then setq_line (short a) (short b) else None
-console_line name (a ∷ b ∷ c ∷ []) = if is_word name (codes "post") then post_line (short a) (short b) (piece_in c) else None
-console_line name _ = None
+line_of_console name (a ∷ b ∷ []) = if is_word name (codes "setq") then setq_line (number16 a) (number16 b) else None
+line_of_console name (a ∷ b ∷ c ∷ []) = if is_word name (codes "post") then post_line (number16 a) (number16 b) (piece_in c) else None
+line_of_console name _ = None
 
 -- the words of an event line
 abbrev pub event_line : List (List ℕ) → Option ScriptLine
-event_line (name ∷ device ∷ queue ∷ []) = if is_word name (codes "serve") && is_word device (codes "con") then serve_line (short queue) else None
+event_line (name ∷ device ∷ queue ∷ []) = if is_word name (codes "serve") && is_word device (codes "con") then serve_line (number16 queue) else None
 event_line _ = None
 
 -- the words of an operation line, after the name of the operation; today's scripts know the console alone
 abbrev pub operation_line : List ℕ → List (List ℕ) → Option ScriptLine
 operation_line name [] = None
-operation_line name (device ∷ more) = if is_word device (codes "con") then console_line name more else None
+operation_line name (device ∷ more) = if is_word device (codes "con") then line_of_console name more else None
 
 -- the line that these words spell
 abbrev pub spelled : List (List ℕ) → Option ScriptLine
@@ -171,9 +183,11 @@ is_expected place (Happens (event.Serve Con queue)) = place == 10 && queue == 1
 is_expected place (Operates (Reap Con queue) events) = place == 11 && queue == 1
 is_expected place _ = false
 
+-- the place after a place
 abbrev pub next_place : ℕ → ℕ
 next_place place = if place == 11 then 8 else place + 1
 
+-- a line, where it is the one of its place
 abbrev pub if_expected : ℕ → Option ScriptLine → Option ScriptLine
 if_expected place None = None
 if_expected place (Some line) = if is_expected place line then Some line else None
@@ -182,27 +196,30 @@ if_expected place (Some line) = if is_expected place line then Some line else No
 abbrev pub line_at : ℕ → List ℕ → Option ScriptLine
 line_at place line = if nat_le (length line) LONGEST_LINE then if_expected place (spelled (words_of line)) else None
 
--- the lines that end with a line feed, and what follows the last of them; `part` is the line so far
+-- the lines that end with a line feed, and what follows the last of them
 pub record Lines : Type 0 where
   pub whole : List (List ℕ)
   pub rest : List ℕ
 
+-- one more line before the others
 abbrev pub with_line : List ℕ → Lines → Lines
 with_line line ls = record { whole = line ∷ ls.whole; rest = ls.rest }
 
+-- the lines of some bytes, where `part` is the first one so far
 abbrev pub lines_from : List ℕ → List ℕ → Lines
 lines_from part [] = record { whole = []; rest = part }
 lines_from part (b ∷ bytes) = if b == 10 then with_line part (lines_from [] bytes) else lines_from (part ++ b ∷ []) bytes
 
--- a last line may lack its line feed
+-- all lines: the last one may lack its line feed
 abbrev pub all_lines : Lines → List (List ℕ)
 all_lines ls = ls.whole ++ joined_to ls.rest []
 
--- lines read one after the other, up to the first that is not in the grammar
+-- a line before the rest of a script; nothing is looked at behind one that is not in the grammar
 abbrev pub and_rest : Option ScriptLine → Script → Script
 and_rest None rest = BadLine
 and_rest (Some line) rest = Line line rest
 
+-- the script of lines from a place of the pattern on, which ends as `end` says where each of them is in the grammar
 abbrev pub script_from : ℕ → List (List ℕ) → Script → Script
 script_from place [] end = end
 script_from place (line ∷ lines) end = and_rest (line_at place line) (script_from (next_place place) lines end)

@@ -1,11 +1,10 @@
-use Rattle.std.specs.Prelude.{◌≡◌, ℕ, ◌≤◌, ◌==◌, ◌&&◌, not, List, Bool, true, false, IsTrue, Option, Some, None, option_map, if◌then◌else◌}
+use Rattle.std.specs.Prelude.{◌≡◌, ℕ, ◌≤◌, ◌&&◌, List, Bool, false, IsTrue, Option, Some, None, is_some, option_map}
 use Rattle.vq_common.specs.Chain.{Walked, Empty, Bad, Front}
 use Rattle.vq_common.specs.Queue.{DeviceQueue, Given}
 use Rattle.vq_split_dev.specs.Walk.{split_walk, split_taken, split_areas_inside}
-use Rattle.dev_status.specs.Status.{StatusState, has_bits, needs_reset_of, DRIVER_OK, DEVICE_NEEDS_RESET}
+use Rattle.dev_status.specs.Status.{StatusState, has_bits, needs_reset_of, DRIVER_OK}
 use Rattle.dev_console.specs.Console.{ConsoleState}
-use Rattle.script_run.specs.MmioTable.{is_ready}
-use Rattle.script_run.specs.RawServe.{with_raw_queue, with_queue_signal, with_config_signal}
+use Rattle.script_run.specs.RawServe.{may_serve, with_raw_queue, with_queue_signal, with_config_signal}
 use Rattle.script_run.specs.RawState.{RawState, RawDevice, RawQueue}
 
 -- the steps in which a queue is served
@@ -17,8 +16,7 @@ raw_of memory d s = record { memory = memory; con = d; waiting = s.waiting; cons
 -- whether a queue is served: it is set and was kicked, the driver runs the device, and for the receive queue input waits
 abbrev pub is_queue_served : StatusState → ℕ → Bool → Option RawQueue → Bool
 is_queue_served s n input None = false
-is_queue_served s n input (Some q) =
-    has_bits s.status DRIVER_OK && not (has_bits s.status DEVICE_NEEDS_RESET) && q.kick && (if n == 0 then input else true) && is_ready q.ring
+is_queue_served s n input (Some q) = may_serve s n input q && is_some q.ring
 
 -- what a queue shows next; one that isn't set shows nothing
 abbrev pub shown_by : List ℕ → Option DeviceQueue → Walked

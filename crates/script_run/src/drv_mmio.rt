@@ -9,7 +9,7 @@ ghost use Rattle.vq_common.specs.Queue.{new_driver_queue};
 ghost use Rattle.vq_split_drv.specs.Reap.{split_reap_program};
 ghost use Rattle.abstract_devices.specs.Operate.{status_of_step};
 ghost use Rattle.script_run.specs.MmioTable.{is_queue_size};
-ghost use Rattle.script_run.specs.Lowering.{IsRunnable, accept_program, cfg_of, console_program, new_record, notify_program, on_queue, post_queue, probe_program, queue_block, reap_end, reset_program, setq_program, status_program, with_driver_queue};
+ghost use Rattle.script_run.specs.Lowering.{IsRunnable, accept_program, cfg_of, mmio_program, new_record, notify_program, queue_program, post_queue, probe_program, queue_block, end_of_reap, reset_program, setq_program, status_program, with_driver_queue};
 
 mod queue_end;
 mod registers;
@@ -205,7 +205,7 @@ impl MmioDriver {
     fn post<P: Port>(&mut self, port: &mut P, queue: u16, buf: &PostBuf) -> Reply
         requires postable { IsPostable (posted_buffer buf.now) }
         requires credit { 4096 ≤ P.credit port.old }
-        ensures { (bytes : List ℕ) → Gives P.step P.marking (on_queue self.old queue (post_queue self.old queue (posted_buffer buf.now))) port.old (record { reply = reply_value result bytes; known = self.new }) port.new }
+        ensures { (bytes : List ℕ) → Gives P.step P.marking (queue_program self.old queue (post_queue self.old queue (posted_buffer buf.now))) port.old (record { reply = reply_value result bytes; known = self.new }) port.new }
     {
         match queue {
             0 => self.receive.post(port, buf),
@@ -217,7 +217,7 @@ impl MmioDriver {
     /// Reaps a used buffer.
     fn reap<P: Port>(&mut self, port: &mut P, queue: u16, room: &mut Room) -> Reply
         requires { 4096 ≤ P.credit port.old }
-        ensures { Gives P.step P.marking (on_queue self.old queue (λ q. and_then (split_reap_program q) (reap_end self.old queue))) port.old (record { reply = reply_value result room.new.items; known = self.new }) port.new }
+        ensures { Gives P.step P.marking (queue_program self.old queue (λ q. and_then (split_reap_program q) (end_of_reap self.old queue))) port.old (record { reply = reply_value result room.new.items; known = self.new }) port.new }
     {
         match queue {
             0 => self.receive.reap(port, room),
@@ -232,7 +232,7 @@ impl MmioDriver {
     pub fn op<P: Port>(&mut self, port: &mut P, op: &Op, room: &mut Room) -> Reply
         requires runnable { IsRunnable (operation op.now) }
         requires credit { 4096 ≤ P.credit port.old }
-        ensures gives { Gives P.step P.marking (console_program self.old (operation op.now)) port.old (record { reply = reply_value result room.new.items; known = self.new }) port.new }
+        ensures gives { Gives P.step P.marking (mmio_program self.old (operation op.now)) port.old (record { reply = reply_value result room.new.items; known = self.new }) port.new }
     {
         match op {
             Op::Probe(_) => self.probe(port, room),

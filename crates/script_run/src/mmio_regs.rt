@@ -1,13 +1,22 @@
 //! The MMIO page of the console (VIRTIO 1.2, 4.2.2).
 
 ghost use Rattle.std.specs.Prelude.{◌≡◌};
-ghost use Rattle.script_run.specs.MmioTable.{register_at, register_for};
+ghost use Rattle.script_run.specs.MmioTable.{register_at, register_for, is_queue_size};
+
+use vt_types::MAX_QUEUE;
 
 /// Where the console's page begins (our own).
 pub const CONSOLE_PAGE: u64 = 0x4000_2000;
 
 /// How many bytes a page has.
 pub const PAGE_LEN: u64 = 0x1000;
+
+/// Whether `QueueNum` may hold this many descriptors: a power of two from 1 to `MAX_QUEUE` (VIRTIO 1.2, 2.7 and 4.2.2).
+pub fn is_queue_size(size: u16) -> bool
+    ensures { result ≡ is_queue_size size }
+{
+    size.is_power_of_two() && size <= MAX_QUEUE
+}
 
 /// A register of a page; `Nothing` where there is none.
 #[derive(Clone, Copy, Debug, PartialEq, Eq)]

@@ -1,13 +1,13 @@
 //! What is sent to the sink.
 
-ghost use Rattle.std.specs.Prelude.{◌≡◌, ℕ, ◌+◌, ◌<◌, ◌≤◌, List, ◌++◌, length, codes, OnOk, OnErr};
+ghost use Rattle.std.specs.Prelude.{◌≡◌, ℕ, ◌+◌, ◌<◌, ◌≤◌, List, [], ◌++◌, length, codes, OnOk, OnErr};
 ghost use Rattle.std.specs.Fmt.{decimal};
 ghost use Rattle.hex.specs.Hex.{encode_lower};
 ghost use Rattle.vt_outside.specs.Disk.{DiskView};
 ghost use Rattle.vt_outside.specs.Sink.{SinkView};
-ghost use Rattle.script_run.specs.EndParts.{console_text, disk_line, disk_text, sector_text, line_of_sector, lines_below, SendsImage};
-ghost use Rattle.script_run.specs.Output.{Sends, SendsEnd};
-ghost use Rattle.script_run.specs.Report.{hex};
+ghost use Rattle.script_run.specs.EndParts.{console_text, line_of_sector, lines_below};
+ghost use Rattle.script_run.specs.Output.{Sends, SendsImage};
+ghost use Rattle.script_run.specs.Report.{disk_line, disk_text, end_text, hex, sector_text};
 
 use crate::report_text::Text;
 use crate::stop::Stop;
@@ -177,7 +177,7 @@ pub fn send_end<K: Sink, D: Disk>(
     sink: &mut K,
     disk: &mut D,
 ) -> Result<(), Stop>
-    ensures { SendsEnd console.now (D.view disk.old) (D.view disk.new) (K.view sink.old) (K.view sink.new) result }
+    ensures { SendsImage (end_text [] console.now) (D.view disk.old) (D.view disk.new) (K.view sink.old) (K.view sink.new) result }
 {
     text.clear();
     if text.reserve(alloc, PIECE_ROOM).is_err() {

@@ -6,8 +6,7 @@ ghost use Rattle.std.specs.List.{list_all};
 ghost use Rattle.byteorder.specs.Endian.{big_bytes};
 ghost use Rattle.hex.specs.Hex.{encode_lower};
 ghost use Rattle.vt_types.specs.Reply.{reply_value, Config};
-ghost use Rattle.script_run.specs.EndParts.{disk_line, sector_text};
-ghost use Rattle.script_run.specs.Report.{hex, spaced, why_text, signals_text, reply_text, reply_line};
+ghost use Rattle.script_run.specs.Report.{disk_line, sector_text, hex, spaced, why_text, signals_text, reply_text, reply_line};
 ghost use Rattle.script_run.specs.Text.{Added};
 
 use hex::encode_to_slice;

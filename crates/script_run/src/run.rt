@@ -21,7 +21,6 @@ use vt_outside::Sink;
 use vt_types::{Memory, Op, Room};
 
 /// Runs an operation on the machine, and adds its reply line.
-#[tactic(auto)]
 fn run_operation(
     number: u32,
     op: &Op,

@@ -1,13 +1,13 @@
 //! The top call.
 
-ghost use Rattle.std.specs.Prelude.{◌≡◌, ℕ, ◌≤◌, List, map, string_bytes, IfOk, IfErr};
+ghost use Rattle.std.specs.Prelude.{◌≡◌, ℕ, ◌≤◌, List, map, string_bytes, IfOk, IfErr, is_some};
 ghost use Rattle.vt_outside.specs.Disk.{DiskView};
 ghost use Rattle.vt_outside.specs.Sink.{SinkView};
 ghost use Rattle.vt_outside.specs.Source.{SourceView};
-ghost use Rattle.script_run.specs.Headline.{Headline, is_run};
+ghost use Rattle.script_run.specs.Headline.{Headline, bus_of};
 ghost use Rattle.script_run.specs.Lowering.{new_record};
 ghost use Rattle.script_run.specs.RawState.{new_raw_state};
-ghost use Rattle.script_run.specs.Run.{ReadsInput, RunsScript, number_of, usage_number};
+ghost use Rattle.script_run.specs.Run.{ReadsInput, RunsScript, run_status, usage_status};
 
 use crate::drv_mmio::MmioDriver;
 use crate::output::{USAGE, send, send_end};
@@ -86,31 +86,29 @@ fn run_script<S: Source, K: Sink, D: Disk>(
     }
 }
 
+/// The status of a call that ran a script.
 fn status_of(ran: Result<u8, Stop>) -> u8
-    ensures { result ≡ number_of ran }
+    ensures { result ≡ run_status ran }
 {
     match ran {
         Ok(status) => status,
-        Err(Stop::Read) => 4,
-        Err(Stop::Write) => 5,
-        Err(Stop::Memory) => 6,
+        Err(stop) => stop.status(),
     }
 }
 
+/// The status of a call that showed the usage line.
 fn usage_status(sent: Result<(), Stop>) -> u8
-    ensures { result ≡ usage_number sent }
+    ensures { result ≡ usage_status sent }
 {
     match sent {
         Ok(()) => 2,
-        Err(Stop::Read) => 4,
-        Err(Stop::Write) => 5,
-        Err(Stop::Memory) => 6,
+        Err(stop) => stop.status(),
     }
 }
 
 /// Whether the words are in the grammar: `run mmio` today.
 fn is_run_words(words: &[String]) -> bool
-    ensures { result ≡ is_run (map string_bytes words.now) }
+    ensures { result ≡ is_some (bus_of (map string_bytes words.now)) }
 {
     match words {
         [command, bus] => command.as_str() == "run" && bus.as_str() == "mmio",

@@ -1,26 +1,20 @@
 //! The machine: guest memory and the console behind its MMIO page, one access or one event at a time.
 
-ghost use Rattle.std.specs.Prelude.{◌≡◌, ◌+◌, ◌≤◌, ◌^◌, nat_le, IfOk, OnOk, OnErr, [], false, length, if◌then◌else◌};
-ghost use Rattle.guest_mem.specs.Memory.{part};
-ghost use Rattle.vt_types.specs.declared.access.Answer.TheVariants.{Done, Got, Outside as PastTheEnd};
-ghost use Rattle.vt_types.specs.Program.{got};
-ghost use Rattle.script_run.specs.Machine.{is_got};
+ghost use Rattle.std.specs.Prelude.{◌≡◌, ◌+◌, ◌≤◌, ◌^◌, IfOk, OnOk};
 ghost use Rattle.script_run.specs.RawServe.{raw_event};
-ghost use Rattle.script_run.specs.RawState.{MEMORY, new_raw_state};
+ghost use Rattle.script_run.specs.RawState.{MEMORY_LEN, new_raw_state};
 
 use crate::dev_core::{Console, serve_buffer};
 use crate::mmio_regs::Register;
-use dev_console::ConState;
-use guest_mem::{GuestMem, Outside};
+use dev_console::{CONSOLE_ROOM, ConState};
+use guest_mem::GuestMem;
+use memory_port::access;
 use std::alloc::Global;
 use std::marker::Model;
 use vt_types::{Access, Answer, Dev, Event, Memory, Place, Port, Room};
 
 #[cfg(test)]
 mod tests;
-
-/// The greatest number of bytes that one access gets.
-const MOST_GOT: usize = 8192;
 
 /// Guest memory of 2^28 bytes, the console behind its page, and how many accesses the operation under way made.
 #[derive(Drop)]
@@ -40,42 +34,12 @@ impl Model for Machine {
 }
 
 /// How many bytes guest memory has.
-#[tactic(auto, unfolding(crate::specs::RawState::MEMORY))]
+#[tactic(auto, unfolding(crate::specs::RawState::MEMORY_LEN))]
 fn memory_len() -> u64
-    ensures value { result ≡ MEMORY }
+    ensures value { result ≡ MEMORY_LEN }
     ensures most { result ≤ 2 ^ 28 }
 {
     1 << 28
-}
-
-/// The answer to bytes that were put into memory, or that passed its end.
-fn done(put: Result<(), Outside>) -> Answer
-    ensures inside { OnOk put (result ≡ Done) }
-    ensures outside { OnErr put (result ≡ PastTheEnd) }
-{
-    match put {
-        Ok(()) => Answer::Done,
-        Err(Outside) => Answer::Outside,
-    }
-}
-
-/// Fills a room with bytes of memory. The room stays as it is where they pass its end.
-fn get(memory: &GuestMem, addr: u64, count: u16, room: &mut Room) -> Answer
-    requires { count ≤ 8192 }
-    ensures answer { result ≡ (if nat_le (addr + count) (length memory.now) then Got else PastTheEnd) }
-    ensures bytes { got result room.new.items ≡ (if nat_le (addr + count) (length memory.now) then part memory.now addr count else []) }
-    ensures leaves { is_got result ≡ false → room.new.items ≡ room.old.items }
-{
-    let mut bytes = [0u8; MOST_GOT];
-    let bytes = &mut bytes[..count as usize];
-    match memory.read(addr, bytes) {
-        Ok(()) => {
-            room.clear();
-            let _fits = room.try_extend_from_slice(bytes);
-            Answer::Got
-        }
-        Err(Outside) => Answer::Outside,
-    }
 }
 
 impl Machine {
@@ -97,7 +61,7 @@ impl Machine {
         ensures raw { self.new.raw ≡ self.old.raw }
         ensures count { self.new.count ≡ self.old.count }
         ensures spare { self.old.spare ≤ self.new.spare }
-        ensures ok { OnOk result (1056768 ≤ self.new.spare) }
+        ensures ok { OnOk result (CONSOLE_ROOM ≤ self.new.spare) }
     {
         self.state.reserve(alloc)
     }
@@ -165,14 +129,7 @@ impl Port for Machine {
                 self.console.store(Register::reached_by(addr, width), value);
                 Answer::Done
             }
-            Access::Put { addr, bytes } => done(self.memory.write(addr, bytes)),
-            Access::Get { addr, count } => get(&self.memory, addr, count, room),
-            Access::Zero { addr, count } => done(self.memory.zero(addr, count)),
-            Access::Swap { addr, value } => match self.memory.swap64(addr, value) {
-                Ok(before) => Answer::Word(before),
-                Err(Outside) => Answer::Outside,
-            },
-            _ => Answer::NoSuch,
+            _ => access(&mut self.memory, a, room),
         }
     }
 

@@ -24,7 +24,7 @@ pub data Walked : Type 0 where
   Bad : Walked
   Front : ChainValue → Walked
 
--- and of what the code answers
+-- the same of what `take` answers
 abbrev pub walked : Take → Walked
 walked take.Empty = Empty
 walked take.Bad = Bad

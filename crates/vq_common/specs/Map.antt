@@ -2,11 +2,15 @@ use Rattle.std.specs.Prelude.{◌≡◌, ℕ, ◌+◌, ◌*◌, ◌<◌}
 
 -- the memory map of a driver's queue block, which begins at `base` (our own)
 
--- a queue block begins at a multiple of 2 ^ 24: one for each of the five queues
+-- the bytes of a queue block
+abbrev pub BLOCK_LEN : ℕ
+BLOCK_LEN = 0x1000000
+
+-- a queue block begins at a multiple of its length: one for each of the five queues
 pub record IsQueueBlock (base : ℕ) : Type 0 where
   pub number : ℕ
   pub known : number < 5
-  pub place : base ≡ (number + 1) * 0x1000000
+  pub place : base ≡ (number + 1) * BLOCK_LEN
 
 -- the driver area
 abbrev pub driver_area : ℕ → ℕ

@@ -6,9 +6,9 @@ use Rattle.vq_common.specs.declared.chain.RingCfg.{RingCfg}
 use Rattle.vq_common.specs.declared.driver_end.Reaped.{Reaped}
 use Rattle.vq_common.specs.Map.{IsQueueBlock, driver_area, device_area}
 
--- the sizes that a queue may have: the powers of two up to 1,024
-abbrev pub is_power_of_two : ℕ → Bool
-is_power_of_two n =
+-- the sizes that a ring end takes: the powers of two up to 1,024
+abbrev pub is_ring_size : ℕ → Bool
+is_ring_size n =
     n == 1 || n == 2 || n == 4 || n == 8 || n == 16 || n == 32 || n == 64 || n == 128 || n == 256 || n == 512 || n == 1024
 
 -- a device's record of a queue: on a split ring the numbers of heads taken and of elements used, modulo 2 ^ 16; on a
@@ -35,6 +35,10 @@ pub record Given : Type 0 where
   pub queue : DeviceQueue
   pub signals : Bool
 
+-- the device's end serves the ring that it was made for
+pub record KeepsRing (before after : DeviceQueue) : Type 0 where
+  pub cfg : after.cfg ≡ before.cfg
+
 -- a buffer that was posted and not yet reaped: its tag, its id (packed), its descriptors with the head first (split), its
 -- slots, and its readable bytes
 pub record Unreaped : Type 0 where
@@ -59,12 +63,17 @@ pub record DriverQueue : Type 0 where
 abbrev pub new_driver_queue : RingCfg → ℕ → DriverQueue
 new_driver_queue cfg base = record { cfg = cfg; base = base; available = 0; available_wrap = true; used = 0; used_wrap = true; unreaped = [] }
 
--- what the areas of a driver's queue are
+-- the three areas are those of the queue block that begins at `base`
 pub record IsPlaced (cfg : RingCfg) (base : ℕ) : Type 0 where
   pub block : IsQueueBlock base
   pub desc : cfg.desc ≡ base
   pub driver : cfg.driver ≡ driver_area base
   pub device : cfg.device ≡ device_area base
+
+-- the driver's end uses the ring and the block that it was started with
+pub record KeepsBlock (before after : DriverQueue) : Type 0 where
+  pub cfg : after.cfg ≡ before.cfg
+  pub base : after.base ≡ before.base
 
 -- the slots of unreaped buffers
 abbrev pub slots_of_all : List Unreaped → ℕ
@@ -99,6 +108,10 @@ reaped_value (Some r) room = Some (record { tag = r.tag; len = r.len; bytes = ro
 abbrev pub post_program : (DriverQueue → PostedBuffer → List AccessValue) → (DriverQueue → PostedBuffer → DriverQueue) → DriverQueue → PostedBuffer → Program (Bool × DriverQueue)
 post_program accesses posted q b =
     if nat_lt (free_slots q) (slots_of b) then End (false, q) else do_all (accesses q b) (Mark (End (true, posted q b)))
+
+-- the most that a post may cost: 3 pages of data, 16 of descriptors, 2 for the ring entry and 2 for the index
+abbrev pub GREATEST_COST_OF_POST : ℕ
+GREATEST_COST_OF_POST = 23
 
 -- what reaping may cost
 abbrev pub cost_of_reap : DriverQueue → ℕ

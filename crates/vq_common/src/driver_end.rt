@@ -1,11 +1,11 @@
 //! The driver's end of a queue.
 
-ghost use Rattle.std.specs.Prelude.{◌≡◌, ℕ, ◌+◌, ◌<◌, ◌≤◌, List, Bool, Option, IsTrue, is_ok, IfOk, false, length};
+ghost use Rattle.std.specs.Prelude.{◌≡◌, ℕ, ◌+◌, ◌<◌, ◌≤◌, List, Bool, Option, IsTrue, is_ok, IfOk, nat_le, false, length};
 ghost use Rattle.vt_types.specs.Operation.{PostedBuffer, posted_buffer};
 ghost use Rattle.vt_types.specs.Program.{Program, Gives, cost_of_all};
 ghost use Rattle.vt_types.specs.Access.{AccessValue};
 ghost use Rattle.vq_common.specs.Buffer.{IsPostable};
-ghost use Rattle.vq_common.specs.Queue.{DriverQueue, ReapedValue, IsPlaced, new_driver_queue, free_slots, holds_tag, post_program, cost_of_reap, reaped_value, is_power_of_two};
+ghost use Rattle.vq_common.specs.Queue.{DriverQueue, ReapedValue, IsPlaced, KeepsBlock, GREATEST_COST_OF_POST, new_driver_queue, free_slots, slots_of, holds_tag, post_program, cost_of_reap, reaped_value, is_ring_size};
 
 use crate::chain::RingCfg;
 use std::alloc::Global;
@@ -29,6 +29,9 @@ pub trait DriverEnd: Sized {
     /// The driver's record of the queue.
     ghost queue: { Self → DriverQueue };
 
+    /// What holds of the record of every end.
+    ghost in_order: { DriverQueue → Type 0 };
+
     /// The greatest size that a queue may be started with.
     ghost greatest: { Self → ℕ };
 
@@ -38,17 +41,20 @@ pub trait DriverEnd: Sized {
     /// The record once a buffer is posted.
     ghost posted: { DriverQueue → PostedBuffer → DriverQueue };
 
+    /// The accesses of a reap, with what is reaped and the record after it.
     ghost reap_program: { DriverQueue → Program (Option ReapedValue × DriverQueue) };
 
+    /// The accesses that ask for signals or for none.
     ghost signals_program: { DriverQueue → Bool → Program DriverQueue };
 
+    /// An end for queues of up to `max` places; none is started.
     fn new(alloc: Global, max: u16) -> Result<Self, Memory>
         ensures { IfOk result (λ d. (greatest d ≡ max) × ((queue d).cfg.size ≡ 0)) };
 
     /// Begins a queue: no buffer is unreaped. The size is a power of two, at most `max` and at most 1,024; `base` is a
     /// queue block and the three areas are its own.
     fn start(&mut self, cfg: &RingCfg, base: u64)
-        requires size { IsTrue (is_power_of_two cfg.now.size) }
+        requires size { IsTrue (is_ring_size cfg.now.size) }
         requires greatest { cfg.now.size ≤ greatest self.old }
         requires placed { IsPlaced cfg.now base }
         ensures queue { queue self.new ≡ new_driver_queue cfg.now base }
@@ -56,7 +62,8 @@ pub trait DriverEnd: Sized {
 
     /// The size less the slots of the unreaped buffers.
     fn free(&self) -> u16
-        ensures { result ≡ free_slots (queue self.now) };
+        ensures value { result ≡ free_slots (queue self.now) }
+        ensures order { in_order (queue self.now) };
 
     /// Whether an unreaped buffer has this tag.
     fn has_tag(&self, tag: u16) -> bool
@@ -70,7 +77,10 @@ pub trait DriverEnd: Sized {
         requires table { IsTrue buf.now.indirect → length buf.now.cuts.items ≤ (queue self.old).cfg.size }
         requires credit { cost_of_all (post_accesses (queue self.old) (posted_buffer buf.now)) ≤ P.credit port.old }
         ensures gives { Gives P.step P.marking (post_program post_accesses posted (queue self.old) (posted_buffer buf.now)) port.old (is_ok result, queue self.new) port.new }
+        ensures full { is_ok result ≡ nat_le (slots_of (posted_buffer buf.now)) (free_slots (queue self.old)) }
         ensures credit { P.credit port.old ≤ P.credit port.new + cost_of_all (post_accesses (queue self.old) (posted_buffer buf.now)) }
+        ensures order { in_order (queue self.old) }
+        ensures block { KeepsBlock (queue self.old) (queue self.new) }
         ensures greatest { greatest self.new ≡ greatest self.old };
 
     /// Reaps the next used buffer; its written bytes are in the room. None where nothing counts as used.
@@ -79,6 +89,7 @@ pub trait DriverEnd: Sized {
         requires credit { cost_of_reap (queue self.old) ≤ P.credit port.old }
         ensures gives { Gives P.step P.marking (reap_program (queue self.old)) port.old (reaped_value result room.new.items, queue self.new) port.new }
         ensures credit { P.credit port.old ≤ P.credit port.new + cost_of_reap (queue self.old) }
+        ensures block { KeepsBlock (queue self.old) (queue self.new) }
         ensures greatest { greatest self.new ≡ greatest self.old };
 
     /// Asks for a signal per used buffer, or for none.
@@ -87,5 +98,9 @@ pub trait DriverEnd: Sized {
         requires credit { 1 ≤ P.credit port.old }
         ensures gives { Gives P.step P.marking (signals_program (queue self.old) on) port.old (queue self.new) port.new }
         ensures credit { P.credit port.old ≤ P.credit port.new + 1 }
+        ensures block { KeepsBlock (queue self.old) (queue self.new) }
         ensures greatest { greatest self.new ≡ greatest self.old };
+
+    /// A post of a buffer that may be posted costs a port at most `GREATEST_COST_OF_POST`.
+    ghost cost: { (q : DriverQueue) (b : PostedBuffer) → IsPostable b → cost_of_all (post_accesses q b) ≤ GREATEST_COST_OF_POST };
 }

@@ -31,13 +31,13 @@ pub struct SplitDevice {
 
 impl Model for SplitDevice {
     ghost use Rattle.std.specs.Prelude.{IsTrue, true};
-    ghost use Rattle.vq_common.specs.Queue.{DeviceQueue, is_power_of_two};
+    ghost use Rattle.vq_common.specs.Queue.{DeviceQueue, is_ring_size};
 
     ghost Value = { DeviceQueue };
 
     ghost view = { λ d. record { cfg = d.cfg; taken = d.taken; taken_wrap = true; used = d.used; used_wrap = true } };
 
-    ghost invariant = { λ d. IsTrue (is_power_of_two d.cfg.size) };
+    ghost invariant = { λ d. IsTrue (is_ring_size d.cfg.size) };
 }
 
 impl SplitDevice {

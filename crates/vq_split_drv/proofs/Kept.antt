@@ -4,7 +4,7 @@ use Rattle.std.specs.Prelude.{IsTrue, remove}
 use Rattle.std.proofs.lemmas.List.{length-reverse, map-append, drop_more, take-append-drop}
 use Rattle.vt_types.specs.Operation.{PostedBuffer}
 use Rattle.vq_common.specs.Buffer.{IsPostable}
-use Rattle.vq_common.specs.Queue.{DriverQueue, Unreaped, IsPlaced, free_slots, slots_of, is_power_of_two}
+use Rattle.vq_common.specs.Queue.{DriverQueue, Unreaped, IsPlaced, free_slots, slots_of, is_ring_size}
 use Rattle.vq_common.specs.declared.chain.RingCfg.{RingCfg}
 use Rattle.vq_split_drv.specs.declared.posted.Posted.{Posted}
 use Rattle.vq_split_drv.specs.Driver.{unreaped_of, split_queue, IsKept}
@@ -22,7 +22,7 @@ pub kept_few : (q : DriverQueue) (g : ℕ) (free : List ℕ) (fc uc : ℕ) → I
 kept_few q g free fc uc h = let size : q.cfg.size ≤ 1024 = h.queue.size in omega arith
 
 -- a queue begins
-pub kept_start : (cfg : RingCfg) (base g : ℕ) (free : List ℕ) (fc uc : ℕ) → IsTrue (is_power_of_two cfg.size) → cfg.size ≤ g → IsPlaced cfg base → free ≡ falling cfg.size → g ≤ fc → g ≤ uc
+pub kept_start : (cfg : RingCfg) (base g : ℕ) (free : List ℕ) (fc uc : ℕ) → IsTrue (is_ring_size cfg.size) → cfg.size ≤ g → IsPlaced cfg base → free ≡ falling cfg.size → g ≤ fc → g ≤ uc
     → IsKept (split_queue cfg base 0 0 []) g free fc uc
 kept_start cfg base g free fc uc power size placed fill room room2 =
     let n : ℕ = placed.block.number in

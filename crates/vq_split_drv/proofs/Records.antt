@@ -1,18 +1,18 @@
 -- A driver's record of a split queue.
 use Rattle.std.proofs.Common.{◌≡◌, ℕ, suc, ◌+◌, ◌-◌, ◌%◌, ◌^◌, ◌<◌, ◌≤◌, List, [], ◌∷◌, ◌++◌, Bool, true, false, not, ◌||◌, ◌&&◌, eqb, ltb, cond, length, take, drop, filter, map, reverse, min, Some, None, refl, sym, ◌∙◌, ap, subst, inl, inr, arith, append_assoc, append-nil, length-append}
-use Rattle.std.specs.Prelude.{IsTrue, All, sum, position, remove}
+use Rattle.std.specs.Prelude.{IsTrue, All, position, remove}
 use Rattle.std.specs.List.{slice_get, position_or_len, prefix_len, list_any}
 use Rattle.std.proofs.Math.Nat.{mod-lt}
 use Rattle.std.proofs.lemmas.Bool.{false≢true, cases_lt, cases_Bool, lt-ltb, eqb-true, or_left, or_right, not-true, ltb-true, false_from_ne_true, cond-false}
 use Rattle.std.proofs.lemmas.Bool.Decides.{nat_tests}
-use Rattle.std.proofs.lemmas.Grind.{common_steps}
 use Rattle.std.proofs.lemmas.List.{length-take, length-take-le, length-drop, length-map, take_at, reverse-append, take-append-drop, length-reverse, take-map, drop-map, map-append}
 use Rattle.std.proofs.lemmas.List.Elements.{filter_agree, All-append, All-push, All-head, All-tail, All-take, All-nil}
 use Rattle.std.proofs.lemmas.Option.{cond_some, same_Some}
 use Rattle.vt_types.specs.Operation.{PostedBuffer}
 use Rattle.vq_common.specs.Buffer.{IsPostable}
-use Rattle.vq_common.specs.Queue.{DriverQueue, Unreaped, free_slots, slots_of, slots_of_all, is_power_of_two, new_driver_queue, holds_tag}
+use Rattle.vq_common.specs.Queue.{DriverQueue, Unreaped, free_slots, slots_of, slots_of_all, is_ring_size, new_driver_queue, holds_tag}
 use Rattle.vq_common.specs.declared.chain.RingCfg.{RingCfg}
+use Rattle.vq_split_drv.specs.Cost.{readable-le}
 use Rattle.vq_split_drv.specs.Driver.{is_distinct, IsSplitBuffer, IsSplitQueue}
 use Rattle.vq_split_drv.specs.Free.{falling, insert_all}
 use Rattle.vq_split_drv.specs.Post.{is_in, numbers, descriptors_in_use, free_descriptors, descriptors_for, head_of, split_posted}
@@ -116,13 +116,6 @@ slots_of-some b h =
     let some : 1 ≤ length b.lengths = h.some in
     let few : length b.lengths ≤ 8 = h.few in
     elim (cases_Bool b.indirect) [ inl t ↦ rw t (omega arith, omega arith) | inr f ↦ rw f (some, few) ]
-
--- and at most 8,192 readable bytes
-pub readable-le : (b : PostedBuffer) → IsPostable b → length b.readable ≤ 8192
-readable-le b h =
-    let readable : length b.readable ≡ sum (take b.readable_pieces b.lengths) = h.readable in
-    let total : sum b.lengths ≤ 8192 = h.total in
-    grind (arith, common_steps)
 
 -- posting keeps the record in order
 pub IsSplitQueue-posted : (q : DriverQueue) (b : PostedBuffer) → IsSplitQueue q → IsPostable b → slots_of b ≤ free_slots q → IsSplitQueue (split_posted q b)
@@ -268,11 +261,11 @@ IsSplitQueue-reaped q id u h e =
     ]
 
 -- a size that is a power of two is at most 1,024
-pub power_of_two-le : (n : ℕ) → IsTrue (is_power_of_two n) → n ≤ 1024
+pub power_of_two-le : (n : ℕ) → IsTrue (is_ring_size n) → n ≤ 1024
 power_of_two-le n h = grind (arith, nat_tests)
 
 -- a queue that was just set is in order
-pub IsSplitQueue-new : (cfg : RingCfg) (base : ℕ) → IsTrue (is_power_of_two cfg.size) → IsSplitQueue (new_driver_queue cfg base)
+pub IsSplitQueue-new : (cfg : RingCfg) (base : ℕ) → IsTrue (is_ring_size cfg.size) → IsSplitQueue (new_driver_queue cfg base)
 IsSplitQueue-new cfg base h =
     record { size = power_of_two-le cfg.size h; available = omega arith; used = omega arith; each = All-nil IsSplitBuffer; below = All-nil (λ n. n < cfg.size); distinct = refl }
 

@@ -1,3 +1,4 @@
+pub mod Cost
 pub mod Driver
 pub mod Free
 pub mod Post

@@ -316,7 +316,12 @@ impl SplitDriver {
 }
 
 impl DriverEnd for SplitDriver {
+    ghost use Rattle.vq_split_drv.specs.Cost.{cost};
+    ghost use Rattle.vq_split_drv.specs.Driver.{IsSplitQueue};
+
     ghost queue = { λ d. d.queue };
+
+    ghost in_order = { IsSplitQueue };
 
     ghost greatest = { λ d. d.greatest };
 
@@ -403,6 +408,8 @@ impl DriverEnd for SplitDriver {
         put(port, self.base + DRIVER_AREA, &bytes, &mut room);
         port.mark();
     }
+
+    ghost cost = { cost };
 }
 
 #[cfg(test)]

@@ -46,11 +46,11 @@ pub do_all-and_then : {X Y : Type 0} (accesses : List AccessValue) (prog : Progr
 do_all-and_then [] prog next = refl
 do_all-and_then (a ∷ rest) prog next = ap (λ r. Do a (λ _ _. r)) (do_all-and_then rest prog next)
 
-module _ {P : Type 0} (step : P → AccessValue → Answer → List ℕ → List ℕ → P → Type 0) (marking : P → P → Type 0) (table : AccessValue → P → Answer × List ℕ × P) (mark : P → P) (is : IsTable step marking table mark) where
+module _ {P R : Type 0} (step : P → AccessValue → Answer → List ℕ → List ℕ → P → Type 0) (marking : P → P → Type 0) (seen : P → R) (table : AccessValue → R → Answer × List ℕ × R) (mark : R → R) (is : IsTable step marking seen table mark) where
   -- what a program gives over a port whose step is a table's is what it gives over the table
-  pub gives_runs : {X : Type 0} (prog : Program X) (p p2 : P) (x : X) → Gives step marking prog p x p2 → run table mark prog p ≡ (x, p2)
+  pub gives_runs : {X : Type 0} (prog : Program X) (p p2 : P) (x : X) → Gives step marking prog p x p2 → run table mark prog (seen p) ≡ (x, seen p2)
   gives_runs (Do a rest) p p2 x (answer, room, room2, mid, s, more) =
-      ap (λ (o : Answer × List ℕ × P). run table mark (rest o.0 o.1) o.2) (is.steps p mid a answer room room2 s) ∙ gives_runs (rest answer (got answer room2)) mid p2 x more
+      ap (λ (o : Answer × List ℕ × R). run table mark (rest o.0 o.1) o.2) (is.steps p mid a answer room room2 s) ∙ gives_runs (rest answer (got answer room2)) mid p2 x more
   gives_runs (Mark rest) p p2 x (mid, m, more) = ap (λ s. run table mark rest s) (sym (is.marks p mid m)) ∙ gives_runs rest mid p2 x more
   gives_runs (End v) p p2 x (same, stays) = rw (same, stays) refl
 

@@ -1,4 +1,4 @@
-use Rattle.std.specs.Prelude.{◌≡◌, ℕ, ◌+◌, List, [], ◌∷◌}
+use Rattle.std.specs.Prelude.{◌≡◌, ℕ, ◌+◌, List, [], ◌∷◌, Bool, true, false}
 use Rattle.vt_types.specs.declared.access.Answer.{Answer}
 use Rattle.vt_types.specs.declared.access.Answer.TheVariants as answer
 use Rattle.vt_types.specs.Access.{AccessValue, access_cost}
@@ -14,6 +14,11 @@ pub data Program (X : Type 0) : Type 0 where
 abbrev pub got : Answer → List ℕ → List ℕ
 got answer.Got room = room
 got _ room = []
+
+-- bytes came with an answer
+abbrev pub is_got : Answer → Bool
+is_got answer.Got = true
+is_got _ = false
 
 -- the program, run over a port's step and marking, leads from one state of the port to this result and another state
 abbrev pub Gives : {P X : Type 0} → (P → AccessValue → Answer → List ℕ → List ℕ → P → Type 0) → (P → P → Type 0) → Program X → P → X → P → Type 0

@@ -19,7 +19,7 @@ pub enum Event {
     Link(bool),
     /// The console has another size.
     Consize { cols: u16, rows: u16 },
-    /// The disk fails this many times from now on.
+    /// The disk call that is so many calls ahead, 1 for the next one, fails; an earlier such count is forgotten.
     Diskfail(u32),
 }
 

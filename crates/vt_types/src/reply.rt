@@ -21,7 +21,7 @@ pub enum Why {
     Full,
     /// A length or a value is out of range.
     Range,
-    /// The device's features don't have it.
+    /// The accepted features rule it out.
     Mode,
 }
 

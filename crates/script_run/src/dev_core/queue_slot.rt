@@ -1,14 +1,14 @@
 //! One queue of a page.
 
-ghost use Rattle.std.specs.Prelude.{◌≡◌, ℕ, ◌+◌, ◌*◌, ◌/◌, ◌%◌, ◌^◌, Some, length};
+ghost use Rattle.std.specs.Prelude.{is_some, ◌≡◌, ℕ, ◌+◌, ◌*◌, ◌/◌, ◌%◌, ◌^◌, Some, length};
 ghost use Rattle.vq_common.specs.Chain.{walked, chain_value};
 ghost use Rattle.vq_common.specs.Queue.{DeviceQueue};
 ghost use Rattle.vq_split_dev.specs.Give.{split_given};
-ghost use Rattle.script_run.specs.MmioTable.{queue_store, kicked, queue_ready, is_ready, is_queue_size, ring_of, set_ready, with_low, with_high};
+ghost use Rattle.script_run.specs.MmioTable.{queue_store, kicked, queue_ready, ring_of, set_ready, with_low, with_high};
 ghost use Rattle.script_run.specs.RawState.{new_raw_queue};
 ghost use Rattle.script_run.specs.ServeSteps.{shown_by, after_showing, IsGivable, QueueGives};
 
-use crate::mmio_regs::Register;
+use crate::mmio_regs::{Register, is_queue_size};
 use bitflags::Flags;
 use guest_mem::GuestMem;
 use std::marker::Model;
@@ -49,13 +49,6 @@ fn with_high(addr: u64, word: u32) -> u64
     (addr & 0xffff_ffff) | (word as u64) << 32
 }
 
-/// Whether a queue may have this many descriptors: a power of two up to 256.
-fn is_queue_size(size: u16) -> bool
-    ensures { result ≡ is_queue_size size }
-{
-    matches!(size, 1 | 2 | 4 | 8 | 16 | 32 | 64 | 128 | 256)
-}
-
 impl QueueSlot {
     /// A queue that isn't set.
     pub fn new() -> QueueSlot
@@ -73,7 +66,7 @@ impl QueueSlot {
 
     /// Whether the queue is set.
     pub fn is_ready(&self) -> bool
-        ensures { result ≡ is_ready self.now.ring }
+        ensures { result ≡ is_some self.now.ring }
     {
         self.ring.is_some()
     }

@@ -9,7 +9,7 @@ ghost use Rattle.vq_common.specs.Queue.{IsPlaced, new_driver_queue, slots_of};
 ghost use Rattle.vq_split_drv.specs.Reap.{split_reap_program};
 ghost use Rattle.script_run.specs.MmioTable.{is_queue_size};
 ghost use Rattle.script_run.specs.DriverCalls.{GivesOnSet, GivesOnQueue};
-ghost use Rattle.script_run.specs.Lowering.{post_refusal, post_queue, reap_end};
+ghost use Rattle.script_run.specs.Lowering.{post_refusal, post_queue, end_of_reap};
 
 use std::alloc::Global;
 use std::marker::Model;
@@ -85,7 +85,7 @@ fn post_to<P: Port>(end: &mut SplitDriver, size: u16, port: &mut P, buf: &PostBu
 fn reap_from<P: Port>(end: &mut SplitDriver, port: &mut P, room: &mut Room) -> Reply
     requires started { 0 < end.old.queue.cfg.size }
     requires credit { 4096 ≤ P.credit port.old }
-    ensures gives { GivesOnSet P.step P.marking (λ known n q. and_then (split_reap_program q) (reap_end known n)) end.old.queue port.old (reply_value result room.new.items) end.new.queue port.new }
+    ensures gives { GivesOnSet P.step P.marking (λ known n q. and_then (split_reap_program q) (end_of_reap known n)) end.old.queue port.old (reply_value result room.new.items) end.new.queue port.new }
     ensures size { end.new.queue.cfg.size ≡ end.old.queue.cfg.size }
     ensures greatest { end.new.greatest ≡ end.old.greatest }
 {
@@ -136,7 +136,7 @@ impl QueueEnd {
     /// Reaps a used buffer; its written bytes are in the room.
     pub fn reap<P: Port>(&mut self, port: &mut P, room: &mut Room) -> Reply
         requires { 4096 ≤ P.credit port.old }
-        ensures { GivesOnQueue P.step P.marking (λ known n q. and_then (split_reap_program q) (reap_end known n)) self.old port.old (reply_value result room.new.items) self.new port.new }
+        ensures { GivesOnQueue P.step P.marking (λ known n q. and_then (split_reap_program q) (end_of_reap known n)) self.old port.old (reply_value result room.new.items) self.new port.new }
     {
         match self.size {
             Some(_) => reap_from(&mut self.end, port, room),

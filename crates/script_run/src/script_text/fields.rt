@@ -1,7 +1,7 @@
 //! The fields of a line: numbers, features, steps and pieces (our own).
 
 ghost use Rattle.std.specs.Prelude.{◌≡◌, ◌≤◌, length, IfOk, IfSome};
-ghost use Rattle.script_run.specs.Script.{short, features_in, piece_in, step_in};
+ghost use Rattle.script_run.specs.Script.{number16, features_in, piece_in, step_in};
 ghost use Rattle.script_run.specs.ScriptLine.{step_value};
 
 use crate::script_text::words::is_word;
@@ -18,7 +18,7 @@ const LONGEST_PIECE: usize = 4096;
 
 /// A decimal number of 16 bits; None where the word isn't one, or has more than 20 digits.
 pub fn short_number(word: &[u8]) -> Option<u16>
-    ensures { result ≡ short word.now }
+    ensures { result ≡ number16 word.now }
 {
     if word.is_empty() || word.len() > MOST_DIGITS {
         return None;

@@ -1,8 +1,8 @@
 //! The input of a script, read whole, and its lines.
 
-ghost use Rattle.std.specs.Prelude.{◌≡◌, ℕ, ◌≤◌, List, Some, take, length, nat_lt, IfOk};
+ghost use Rattle.std.specs.Prelude.{◌≡◌, ℕ, ◌+◌, ◌≤◌, List, Some, drop, take, length, nat_lt, IfOk};
 ghost use Rattle.vt_outside.specs.Faults.{Rose};
-ghost use Rattle.script_run.specs.Input.{NextLine};
+ghost use Rattle.script_run.specs.Input.{NextLine, TakesAtMost};
 
 use crate::script_text::words::find_byte;
 use std::alloc::{AllocError, Global};
@@ -37,6 +37,8 @@ impl Input {
     /// Reads a source to its end, or up to the first byte past 2^26.
     pub fn read<S: Source>(alloc: Global, source: &mut S) -> Result<Input, ReadFault>
         ensures told { (left : List ℕ) → (S.view source.old).left ≡ Some left → IfOk result (λ i. (i.bytes.items ≡ take MOST_BYTES left) × (i.more ≡ nat_lt MOST_BYTES (length left))) }
+        ensures leaves { (left : List ℕ) → (S.view source.old).left ≡ Some left → IfOk result (λ i. (S.view source.new).left ≡ Some (drop (MOST_BYTES + 1) left)) }
+        ensures takes { TakesAtMost (MOST_BYTES + 1) (S.view source.old).left (S.view source.new).left }
         ensures few { IfOk result (λ i. length i.bytes.items ≤ MOST_BYTES) }
         ensures cause { result ≡ Err ReadFault.Read → Rose (S.view source.old).faults (S.view source.new).faults }
         ensures later { (S.view source.old).faults ≤ (S.view source.new).faults }

@@ -3,8 +3,8 @@
 ghost use Rattle.std.specs.Prelude.{◌≡◌, ◌≤◌, IfOk};
 ghost use Rattle.script_run.specs.Script.{line_at, words_of, spelled, is_expected, next_place};
 ghost use Rattle.script_run.specs.ScriptLine.{line_value, script_line};
-ghost use Rattle.script_run.specs.MmioTable.{is_queue_size};
 
+use crate::mmio_regs::is_queue_size;
 use crate::script_text::operation::{event, operation};
 use crate::script_text::words::{first_word, is_word};
 use std::alloc::{AllocError, Global};
@@ -20,13 +20,6 @@ pub enum Line {
     Event(Event),
 }
 
-/// Whether a queue may have this size: a power of two from 1 to 256.
-fn may_be_size(size: u16) -> bool
-    ensures { result ≡ is_queue_size size }
-{
-    matches!(size, 1 | 2 | 4 | 8 | 16 | 32 | 64 | 128 | 256)
-}
-
 impl Line {
     /// Whether the line is the one that the pattern of today's scripts has at a place.
     fn is_expected(&self, place: u8) -> bool
@@ -40,7 +33,7 @@ impl Line {
             Line::Op(Op::Accept(Dev::Con, features), _) => place == 4 && *features == 1 << 32,
             Line::Op(Op::Status(Dev::Con, Step::FeatOk), _) => place == 5,
             Line::Op(Op::SetQ(Dev::Con, queue, size), _) => {
-                place == 6 && *queue == 1 && may_be_size(*size)
+                place == 6 && *queue == 1 && is_queue_size(*size)
             }
             Line::Op(Op::Status(Dev::Con, Step::DrvOk), _) => place == 7,
             Line::Op(Op::Post(Dev::Con, queue, _), _) => place == 8 && *queue == 1,

@@ -2,7 +2,7 @@
 
 ghost use Rattle.std.specs.Prelude.{◌≡◌, ◌≤◌, [], ◌∷◌, false, length, IfOk};
 ghost use Rattle.vt_types.specs.Operation.{posted_buffer};
-ghost use Rattle.script_run.specs.Script.{words_of, console_line, operation_line, event_line};
+ghost use Rattle.script_run.specs.Script.{words_of, line_of_console, operation_line, event_line};
 ghost use Rattle.script_run.specs.ScriptLine.{operation_value, event_value};
 
 use crate::script_text::fields::{features, piece, short_number, step};
@@ -13,7 +13,7 @@ use vt_types::{Bytes, Dev, Event, Memory, Op, PostBuf};
 
 /// The operation on the console that has no fields.
 fn bare(name: &[u8]) -> Option<Op>
-    ensures { operation_value result ≡ console_line name.now [] }
+    ensures { operation_value result ≡ line_of_console name.now [] }
 {
     if is_word(name, b"probe") {
         Some(Op::Probe(Dev::Con))
@@ -26,7 +26,7 @@ fn bare(name: &[u8]) -> Option<Op>
 
 /// The operation on the console that has one field.
 fn with_field(name: &[u8], field: &[u8]) -> Option<Op>
-    ensures { operation_value result ≡ console_line name.now (field.now ∷ []) }
+    ensures { operation_value result ≡ line_of_console name.now (field.now ∷ []) }
 {
     if is_word(name, b"status") {
         Some(Op::Status(Dev::Con, step(field)?))
@@ -43,7 +43,7 @@ fn with_field(name: &[u8], field: &[u8]) -> Option<Op>
 
 /// The operation that sets up a queue of the console.
 fn set_queue(name: &[u8], queue: &[u8], size: &[u8]) -> Option<Op>
-    ensures { operation_value result ≡ console_line name.now (queue.now ∷ size.now ∷ []) }
+    ensures { operation_value result ≡ line_of_console name.now (queue.now ∷ size.now ∷ []) }
 {
     if is_word(name, b"setq") {
         Some(Op::SetQ(Dev::Con, short_number(queue)?, short_number(size)?))
@@ -76,7 +76,7 @@ fn post(
     tag: &[u8],
     word: &[u8],
 ) -> Result<Option<Op>, Memory>
-    ensures { IfOk result (λ op. operation_value op ≡ console_line name.now (queue.now ∷ tag.now ∷ word.now ∷ [])) }
+    ensures { IfOk result (λ op. operation_value op ≡ line_of_console name.now (queue.now ∷ tag.now ∷ word.now ∷ [])) }
 {
     if !is_word(name, b"post") {
         return Ok(None);
@@ -92,7 +92,7 @@ fn post(
 
 /// The operation on the console that a name and the words of a text spell.
 fn console_operation(alloc: Global, name: &[u8], text: &[u8]) -> Result<Option<Op>, Memory>
-    ensures { IfOk result (λ op. operation_value op ≡ console_line name.now (words_of text.now)) }
+    ensures { IfOk result (λ op. operation_value op ≡ line_of_console name.now (words_of text.now)) }
 {
     let Some((first, text)) = first_word(text) else {
         return Ok(bare(name));

@@ -1,6 +1,7 @@
 use Rattle.std.proofs.Common.{◌++◌}
 use Rattle.std.specs.Prelude.{codes}
-use Rattle.script_run.specs.EndParts.{disk_line, disk_text, lines_below}
+use Rattle.script_run.specs.EndParts.{lines_below}
+use Rattle.script_run.specs.Report.{disk_line, disk_text}
 use Rattle.script_run.proofs.EndLaws.{disk_ended, disk_opened, disk_told}
 use Rattle.script_run.proofs.SendLaws.{image_as, image_front, image_sends, image_then}
 use Rattle.script_run.proofs.output.send_disk.Goals as goal

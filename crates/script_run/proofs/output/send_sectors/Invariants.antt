@@ -1,6 +1,7 @@
 use Rattle.std.proofs.Common.{length, ◌+◌, ◌≤◌}
 use Rattle.std.specs.Prelude.{Ok}
-use Rattle.script_run.specs.EndParts.{lines_below, SendsImage}
+use Rattle.script_run.specs.EndParts.{lines_below}
+use Rattle.script_run.specs.Output.{SendsImage}
 use Rattle.script_run.proofs.output.send_sectors.Given as goal
 
 abbrev pub invariant-sectors : goal.invariant-sectors

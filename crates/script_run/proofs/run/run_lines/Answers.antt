@@ -1,17 +1,19 @@
-use Rattle.std.proofs.Common.{ℕ, ◌++◌, List, [], arith, rules, refl, lit≤}
+use Rattle.std.proofs.Common.{Err, ℕ, ◌++◌, List, [], arith, rules, refl, lit≤}
 use Rattle.std.specs.Prelude.{Bool}
+use Rattle.vt_types.specs.declared.device.BusKind.TheVariants.{Mmio}
 use Rattle.vt_outside.proofs.SinkLaws.{adds_none, adds_then}
 use Rattle.abstract_devices.specs.World.{AbstractDisk, new_world}
 use Rattle.script_run.specs.Lowering.{new_record}
 use Rattle.script_run.specs.RawState.{new_raw_state}
 use Rattle.script_run.specs.Report.{Report, report_from}
 use Rattle.script_run.specs.Script.{script_in}
-use Rattle.script_run.proofs.RunLaws.{reaches_start_at, reaches_next, done_at_end, ends_too_long, ends_bad, done_ending, done_in_part, front, cause_of_all, send_cause_of_all, next_place_fits}
+use Rattle.script_run.proofs.RunLaws.{reaches_start_at, reaches_next, done_at_end, ends_too_long, ends_bad, done_ending, done_in_part, front, next_place_fits}
+use Rattle.script_run.proofs.SendLaws.{cause_later}
 use Rattle.script_run.proofs.run.run_lines.Goals as goal
 
 -- the report of all the lines
 abbrev whole_report : List ℕ → Bool → AbstractDisk → Report
-whole_report bytes more disk = report_from (script_in 0 bytes more) 0 (new_world disk) new_raw_state new_record
+whole_report bytes more disk = report_from Mmio (script_in 0 bytes more) 0 (new_world disk) new_raw_state new_record
 
 pub lines-init : goal.lines-init
 lines-init g c = record {
@@ -38,7 +40,7 @@ returns-in-TooLong g c =
     let (sent, adds, reaches) = c.lines.invariant.reached in
     record {
       later = omega (arith, c.lines.invariant.later, c.send_ending.ensures.later);
-      cause = cause_of_all c.send_ending.result _ _ _ c.lines.invariant.later c.send_ending.ensures.cause;
+      cause = cause_later c.send_ending.result _ _ _ c.lines.invariant.later c.send_ending.ensures.cause;
       sent = sent ++ c.send_ending.ensures.sent;
       adds = adds_then _ _ _ _ _ adds c.send_ending.ensures.adds;
       done = λ disk.
@@ -51,7 +53,7 @@ returns-in-Ok-false g c =
     let (bad, fault) = rw c.in-Ok-false.field-0-test at c.in-Ok-false.ensures in
     record {
       later = omega (arith, c.lines.invariant.later, c.send_ending-in-Ok-false.ensures.later);
-      cause = cause_of_all c.send_ending-in-Ok-false.result _ _ _ c.lines.invariant.later c.send_ending-in-Ok-false.ensures.cause;
+      cause = cause_later c.send_ending-in-Ok-false.result _ _ _ c.lines.invariant.later c.send_ending-in-Ok-false.ensures.cause;
       sent = sent ++ c.send_ending-in-Ok-false.ensures.sent;
       adds = adds_then _ _ _ _ _ adds c.send_ending-in-Ok-false.ensures.adds;
       done = λ disk.
@@ -76,7 +78,7 @@ returns-in-Err-send g c =
     let (line, parsed, ran) = rw c.in-Ok-true.field-0-test at c.in-Ok-true.ensures in
     record {
       later = omega (arith, c.lines.invariant.later, c.send.ensures.later);
-      cause = send_cause_of_all c.in-Err-send.stop _ _ _ c.lines.invariant.later (rw c.in-Err-send.is at c.send.ensures.cause);
+      cause = cause_later {X = Unit {0}} (Err c.in-Err-send.stop) _ _ _ c.lines.invariant.later (rw c.in-Err-send.is at c.send.ensures.cause);
       sent = sent ++ c.send.ensures.sent;
       adds = adds_then _ _ _ _ _ adds c.send.ensures.adds;
       done = λ disk.

@@ -1,12 +1,11 @@
-use Rattle.std.proofs.Common.{◌≡◌, Bool, true, false, None, sym, ◌∙◌, ap, subst, arith}
+use Rattle.std.proofs.Common.{◌≡◌, Bool, true, false, None, sym, ◌∙◌, subst, arith}
 use Rattle.std.specs.Prelude.{is_ok}
 use Rattle.vt_types.specs.Operation.{PostedBuffer, posted_buffer}
-use Rattle.vq_common.specs.declared.chain.RingCfg.{RingCfg}
 use Rattle.vq_common.specs.Queue.{DriverQueue}
-use Rattle.vq_split_drv.proofs.Posts.{cost_of_post-le}
+use Rattle.vq_split_drv.specs.Cost.{cost}
 use Rattle.script_run.specs.DriverCalls.{GivesOnSet}
 use Rattle.script_run.specs.Lowering.{post_queue, post_refusal, post_reply}
-use Rattle.script_run.proofs.DriverEnds.{post_keeps, post_on_set, refused_on_set}
+use Rattle.script_run.proofs.DriverEnds.{post_on_set, refused_on_set}
 use Rattle.script_run.proofs.drv_mmio.queue_end.post_to.Goals as goal
 
 pub returns-in-Some-clause-gives : goal.returns-in-Some-clause-gives
@@ -14,7 +13,7 @@ returns-in-Some-clause-gives g c = λ bytes.
     refused_on_set g.P.Port.step g.P.Port.marking c.args.end.now.queue (posted_buffer c.args.buf.now) c.in-Some.why c.args.port.now (sym c.refusal.ensures ∙ c.in-Some.is)
 
 pub post-requires-clause-credit : goal.post-requires-clause-credit
-post-requires-clause-credit g c = omega (arith, cost_of_post-le c.args.end.now.queue (posted_buffer c.args.buf.now) c.requires.postable)
+post-requires-clause-credit g c = omega (arith, cost c.args.end.now.queue (posted_buffer c.args.buf.now) c.requires.postable)
 
 pub returns-then-is_ok-clause-gives : goal.returns-then-is_ok-clause-gives
 returns-then-is_ok-clause-gives g c = λ bytes.
@@ -25,10 +24,6 @@ returns-then-is_ok-clause-gives g c = λ bytes.
     subst (λ (posted : Bool). GivesOnSet g.P.Port.step g.P.Port.marking (λ known n r. post_queue known n b r) q c.args.port.now (post_reply posted) c.post.new.self.queue c.post.new.port) ok
     (post_on_set g.P.Port.step g.P.Port.marking q c.post.new.self.queue b (is_ok c.post.result) c.args.port.now c.post.new.port none c.post.ensures.gives)
 
-pub returns-then-is_ok-clause-size : goal.returns-then-is_ok-clause-size
-returns-then-is_ok-clause-size g c =
-    ap (λ (r : RingCfg). r.size) (post_keeps g.P.Port.step g.P.Port.marking c.args.end.now.queue c.post.new.self.queue (posted_buffer c.args.buf.now) (is_ok c.post.result) c.args.port.now c.post.new.port c.post.ensures.gives)
-
 pub returns-else-is_ok-clause-gives : goal.returns-else-is_ok-clause-gives
 returns-else-is_ok-clause-gives g c = λ bytes.
     let q : DriverQueue = c.args.end.now.queue in
@@ -37,7 +32,3 @@ returns-else-is_ok-clause-gives g c = λ bytes.
     let full : is_ok c.post.result ≡ false = cc in
     subst (λ (posted : Bool). GivesOnSet g.P.Port.step g.P.Port.marking (λ known n r. post_queue known n b r) q c.args.port.now (post_reply posted) c.post.new.self.queue c.post.new.port) full
     (post_on_set g.P.Port.step g.P.Port.marking q c.post.new.self.queue b (is_ok c.post.result) c.args.port.now c.post.new.port none c.post.ensures.gives)
-
-pub returns-else-is_ok-clause-size : goal.returns-else-is_ok-clause-size
-returns-else-is_ok-clause-size g c =
-    ap (λ (r : RingCfg). r.size) (post_keeps g.P.Port.step g.P.Port.marking c.args.end.now.queue c.post.new.self.queue (posted_buffer c.args.buf.now) (is_ok c.post.result) c.args.port.now c.post.new.port c.post.ensures.gives)

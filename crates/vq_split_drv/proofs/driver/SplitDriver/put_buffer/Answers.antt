@@ -4,7 +4,8 @@ use Rattle.vt_types.specs.Program.{Does, cost_of_all}
 use Rattle.vq_common.specs.Map.{data_place}
 use Rattle.vq_common.specs.Queue.{DriverQueue}
 use Rattle.vq_split_drv.specs.Post.{data_puts, available_puts}
-use Rattle.vq_split_drv.proofs.Posts.{cost_of_post, post_does}
+use Rattle.vq_split_drv.specs.Cost.{cost_of_post}
+use Rattle.vq_split_drv.proofs.Posts.{post_does}
 use Rattle.vq_split_drv.proofs.driver.SplitDriver.put_buffer.Goals as goal
 
 pub put_chain-requires-clause-credit : goal.put_chain-requires-clause-credit

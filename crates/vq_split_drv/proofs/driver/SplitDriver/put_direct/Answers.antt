@@ -1,5 +1,5 @@
 use Rattle.std.proofs.Common.{◌-◌, ap, arith, drop, length, take}
-use Rattle.vq_split_drv.proofs.Posts.{length-descriptors_of}
+use Rattle.vq_split_drv.specs.Cost.{length-descriptors_of}
 use Rattle.vq_split_drv.proofs.driver.SplitDriver.put_direct.Goals as goal
 
 pub put_descriptors-requires-clause-places : goal.put_descriptors-requires-clause-places

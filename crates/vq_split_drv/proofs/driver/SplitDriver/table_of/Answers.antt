@@ -1,7 +1,8 @@
 use Rattle.std.proofs.Common.{ℕ, ◌≤◌, List, arith, length, ap, ◌∙◌}
 use Rattle.vq_common.specs.Map.{data_place}
 use Rattle.vq_split_drv.specs.Post.{descriptors_of, table_bytes, numbers}
-use Rattle.vq_split_drv.proofs.Posts.{length-descriptors_of, length-table_bytes, first_numbers}
+use Rattle.vq_split_drv.specs.Cost.{length-descriptors_of, length-table_bytes}
+use Rattle.vq_split_drv.proofs.Posts.{first_numbers}
 use Rattle.vq_split_drv.proofs.driver.SplitDriver.table_of.Goals as goal
 
 pub returns-clause-bytes : goal.returns-clause-bytes

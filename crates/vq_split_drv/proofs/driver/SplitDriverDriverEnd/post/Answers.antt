@@ -13,7 +13,7 @@ pub returns-clause-gives : goal.returns-clause-gives
 returns-clause-gives g c =
     let q : DriverQueue = c.args.self.now.queue in
     let b : PostedBuffer = posted_buffer c.args.buf.now in
-    let room : slots_of b ≤ free_slots q = omega (arith, c.slots-slots.ensures.value, c.free.ensures, c.from.ensures, c.if-slots-from.false) in
+    let room : slots_of b ≤ free_slots q = omega (arith, c.slots-slots.ensures.value, c.free.ensures.value, c.from.ensures, c.if-slots-from.false) in
     let places : c.as_slice.result.now ≡ descriptors_for q b = c.as_slice.ensures.value ∙ c.lowest_free-descriptors.ensures.value ∙ ap (λ (n : ℕ). take n (free_descriptors q)) c.slots-slots.ensures.value in
     let done : Does g.P.Port.step g.P.Port.marking (split_post_accesses q b) c.args.port.now c.put_buffer.new.port
     = subst (λ (ns : List ℕ). Does g.P.Port.step g.P.Port.marking (post_puts q b ns) c.args.port.now c.put_buffer.new.port) places c.put_buffer.ensures.does

@@ -1,0 +1,75 @@
+//! One access of guest memory.
+
+ghost use Rattle.std.specs.Prelude.{◌≡◌, ◌+◌, ◌≤◌, nat_le, [], OnOk, OnErr, false, length, if◌then◌else◌};
+ghost use Rattle.guest_mem.specs.Memory.{part};
+ghost use Rattle.vt_types.specs.declared.access.Answer.TheVariants.{Done, Got, Outside as PastTheEnd};
+ghost use Rattle.vt_types.specs.Access.{access_value, IsWithinLimits};
+ghost use Rattle.vt_types.specs.Program.{got, is_got};
+ghost use Rattle.memory_port.specs.MemoryTable.{MemoryStep};
+
+use guest_mem::{GuestMem, Outside};
+use vt_types::{Access, Answer, Room};
+
+/// The answer to a put or a zeroing: it was done, or its range passes the end.
+fn done(put: Result<(), Outside>) -> Answer
+    ensures inside { OnOk put (result ≡ Done) }
+    ensures outside { OnErr put (result ≡ PastTheEnd) }
+{
+    match put {
+        Ok(()) => Answer::Done,
+        Err(Outside) => Answer::Outside,
+    }
+}
+
+/// Fills a room with at most `N` bytes of memory. The room stays as it is where they pass its end.
+fn get_up_to<const N: usize>(memory: &GuestMem, addr: u64, count: u16, room: &mut Room) -> Answer
+    requires few { count ≤ N }
+    requires most { N ≤ 8192 }
+    ensures answer { result ≡ (if nat_le (addr + count) (length memory.now) then Got else PastTheEnd) }
+    ensures bytes { got result room.new.items ≡ (if nat_le (addr + count) (length memory.now) then part memory.now addr count else []) }
+    ensures leaves { is_got result ≡ false → room.new.items ≡ room.old.items }
+{
+    let mut bytes = [0u8; N];
+    let bytes = &mut bytes[..count as usize];
+    match memory.read(addr, bytes) {
+        Ok(()) => {
+            room.clear();
+            let _fits = room.try_extend_from_slice(bytes);
+            Answer::Got
+        }
+        Err(Outside) => Answer::Outside,
+    }
+}
+
+/// Fills a room with bytes of memory; a short get clears few bytes of its own.
+fn get(memory: &GuestMem, addr: u64, count: u16, room: &mut Room) -> Answer
+    requires { count ≤ 8192 }
+    ensures answer { result ≡ (if nat_le (addr + count) (length memory.now) then Got else PastTheEnd) }
+    ensures bytes { got result room.new.items ≡ (if nat_le (addr + count) (length memory.now) then part memory.now addr count else []) }
+    ensures leaves { is_got result ≡ false → room.new.items ≡ room.old.items }
+{
+    if count <= 64 {
+        get_up_to::<64>(memory, addr, count, room)
+    } else {
+        get_up_to::<8192>(memory, addr, count, room)
+    }
+}
+
+/// Does an access of guest memory: a put, a get, a zeroing or a swap. `Outside` comes exactly where the access's range
+/// passes the end of memory, and `NoSuch` exactly for another kind of access; both change nothing. After `Got` the
+/// bytes are in the room.
+pub fn access(memory: &mut GuestMem, a: &Access<'_>, room: &mut Room) -> Answer
+    requires { IsWithinLimits (access_value a.now) }
+    ensures { MemoryStep memory.old (access_value a.now) result room.old.items room.new.items memory.new }
+{
+    match *a {
+        Access::Put { addr, bytes } => done(memory.write(addr, bytes)),
+        Access::Get { addr, count } => get(memory, addr, count, room),
+        Access::Zero { addr, count } => done(memory.zero(addr, count)),
+        Access::Swap { addr, value } => match memory.swap64(addr, value) {
+            Ok(before) => Answer::Word(before),
+            Err(Outside) => Answer::Outside,
+        },
+        _ => Answer::NoSuch,
+    }
+}

@@ -1,0 +1,45 @@
+//! The port by itself.
+
+use super::MemoryPort;
+use guest_mem::GuestMem;
+use std::test::Fail;
+use vt_types::{Access, Answer, Port, Room};
+
+#[test]
+fn memory_is_put_got_swapped_and_zeroed(rt: HostRuntime) -> Result<(), Fail> {
+    let mut port = MemoryPort {
+        memory: GuestMem::new(rt.alloc(), 32)?,
+    };
+    let mut room = Room::new();
+    let bytes = [1u8, 2, 3, 4, 5, 6, 7, 8];
+    let put = Access::Put {
+        addr: 8,
+        bytes: &bytes,
+    };
+    assert!(rt; matches!(port.access(&put, &mut room), Answer::Done));
+    let swap = Access::Swap {
+        addr: 8,
+        value: 0x11,
+    };
+    assert!(rt;
+        matches!(
+            port.access(&swap, &mut room),
+            Answer::Word(0x0102030405060708)
+        )
+    );
+    let zero = Access::Zero { addr: 15, count: 1 };
+    assert!(rt; matches!(port.access(&zero, &mut room), Answer::Done));
+    let get = Access::Get { addr: 8, count: 8 };
+    assert!(rt; matches!(port.access(&get, &mut room), Answer::Got));
+    assert!(rt; room.as_slice() == [0u8; 8].as_slice());
+    let past = Access::Get { addr: 25, count: 8 };
+    assert!(rt; matches!(port.access(&past, &mut room), Answer::Outside));
+    port.mark();
+    assert!(rt;
+        matches!(
+            port.access(&Access::Csch { id: 0 }, &mut room),
+            Answer::NoSuch
+        )
+    );
+    Ok(())
+}

@@ -1,0 +1,88 @@
+-- What a post may cost: the law `cost` of `DriverEnd`.
+use Rattle.std.proofs.Common.{◌≡◌, ℕ, zero, suc, ◌+◌, ◌-◌, ◌*◌, ◌≤◌, List, [], ◌∷◌, ◌++◌, Bool, true, false, cond, eqb, ◌%◌, ◌^◌, length, take, drop, refl, ◌∙◌, ap, arith, length-append}
+use Rattle.std.specs.Prelude.{sum}
+use Rattle.std.proofs.lemmas.Bool.{ne_eqb}
+use Rattle.std.proofs.lemmas.Grind.{common_steps}
+use Rattle.byteorder.specs.Endian.{little_bytes}
+use Rattle.vt_types.specs.Access.{AccessValue, Put, pages_touched}
+use Rattle.vt_types.specs.Operation.{PostedBuffer}
+use Rattle.vt_types.specs.Program.{cost_of_all}
+use Rattle.vt_types.proofs.Programs.{cost_of_all-append}
+use Rattle.vq_common.specs.Buffer.{IsPostable}
+use Rattle.vq_common.specs.declared.descriptor.Descriptor.{Descriptor}
+use Rattle.vq_common.specs.Descriptor.{descriptor_bytes}
+use Rattle.vq_common.specs.Map.{data_place, table_place}
+use Rattle.vq_common.specs.Queue.{DriverQueue, GREATEST_COST_OF_POST}
+use Rattle.vq_split_drv.specs.Post.{numbers, head_of, puts_of, descriptors_for, descriptors_of, table_bytes, data_puts, direct_puts, indirect_puts, available_puts, chain_puts, post_puts, split_post_accesses}
+
+-- there are as many descriptors as pieces
+pub length-descriptors_of : (addr readable : ℕ) (lengths places : List ℕ) → length (descriptors_of addr readable lengths places) ≡ length lengths
+length-descriptors_of addr readable [] places = refl
+length-descriptors_of addr readable (len ∷ []) places = refl
+length-descriptors_of addr readable (len ∷ more ∷ rest) places = ap suc (length-descriptors_of (addr + len) (readable - 1) (more ∷ rest) (drop 1 places))
+
+-- a descriptor has 16 bytes
+pub length-table_bytes : (ds : List Descriptor) → length (table_bytes ds) ≡ 16 * length ds
+length-table_bytes [] = refl
+length-table_bytes (d ∷ ds) = let long : length (descriptor_bytes d) ≡ 16 = refl in omega (arith, length-append (descriptor_bytes d) (table_bytes ds), length-table_bytes ds)
+
+-- a buffer has at most 8,192 readable bytes
+pub readable-le : (b : PostedBuffer) → IsPostable b → length b.readable ≤ 8192
+readable-le b h =
+    let readable : length b.readable ≡ sum (take b.readable_pieces b.lengths) = h.readable in
+    let total : sum b.lengths ≤ 8192 = h.total in
+    grind (arith, common_steps)
+
+-- what the parts of a post cost
+pub cost_of_post : (q : DriverQueue) (b : PostedBuffer) (places : List ℕ)
+    → cost_of_all (post_puts q b places) ≡ cost_of_all (data_puts (data_place q.base (head_of places)) b.readable) + cost_of_all (chain_puts q b places) + cost_of_all (available_puts q (head_of places))
+cost_of_post q b places =
+    let data1 : List AccessValue = data_puts (data_place q.base (head_of places)) b.readable in
+    cost_of_all-append (data1 ++ chain_puts q b places) (available_puts q (head_of places))
+    ∙ ap (λ (n : ℕ). n + cost_of_all (available_puts q (head_of places))) (cost_of_all-append data1 (chain_puts q b places))
+
+-- bytes touch few pages
+pub pages-le : (addr count : ℕ) → count ≤ 8192 → pages_touched addr count ≤ 3
+pages-le addr zero few = omega arith
+pages-le addr (suc n) few = let some : eqb (suc n) 0 ≡ false = ne_eqb (suc n) 0 (λ e. absurd (omega arith)) in rw some (omega arith)
+
+pub pages-le-two : (addr count : ℕ) → count ≤ 4096 → pages_touched addr count ≤ 2
+pages-le-two addr zero few = omega arith
+pages-le-two addr (suc n) few = let some : eqb (suc n) 0 ≡ false = ne_eqb (suc n) 0 (λ e. absurd (omega arith)) in rw some (omega arith)
+
+cost_of_data : (place : ℕ) (bytes : List ℕ) → length bytes ≤ 8192 → cost_of_all (data_puts place bytes) ≤ 3
+cost_of_data place [] few = omega arith
+cost_of_data place (byte ∷ bytes) few = omega (arith, pages-le place (length (byte ∷ bytes)) few)
+
+cost_of_puts : (table : ℕ) (places : List ℕ) (ds : List Descriptor) → cost_of_all (puts_of table places ds) ≤ 2 * length ds
+cost_of_puts table places [] = omega arith
+cost_of_puts table places (d ∷ ds) =
+    let long : length (descriptor_bytes d) ≡ 16 = refl in
+    omega (arith, pages-le-two (table + 16 * head_of places) (length (descriptor_bytes d)) (omega arith), cost_of_puts table (drop 1 places) ds)
+
+cost_of_two : (a b : ℕ) (xs ys : List ℕ) → length xs ≤ 4096 → length ys ≤ 4096 → cost_of_all (Put a xs ∷ Put b ys ∷ []) ≤ 4
+cost_of_two a b xs ys few few2 = omega (arith, pages-le-two a (length xs) few, pages-le-two b (length ys) few2)
+
+cost_of_either : (c : Bool) (xs ys : List AccessValue) (n : ℕ) → cost_of_all xs ≤ n → cost_of_all ys ≤ n → cost_of_all (cond c xs ys) ≤ n
+cost_of_either true xs ys n h k = h
+cost_of_either false xs ys n h k = k
+
+-- a post costs no more than the greatest cost
+pub cost : (q : DriverQueue) (b : PostedBuffer) → IsPostable b → cost_of_all (split_post_accesses q b) ≤ GREATEST_COST_OF_POST
+cost q b h =
+    let places : List ℕ = descriptors_for q b in
+    let head : ℕ = head_of places in
+    let place : ℕ = data_place q.base head in
+    let few : length b.lengths ≤ 8 = h.few in
+    let table : List Descriptor = descriptors_of place b.readable_pieces b.lengths (numbers 1 (length b.lengths)) in
+    let direct : cost_of_all (direct_puts q b places) ≤ 16
+    = omega (arith, cost_of_puts q.base places (descriptors_of place b.readable_pieces b.lengths (drop 1 places)), length-descriptors_of place b.readable_pieces b.lengths (drop 1 places))
+    in
+    let named : List ℕ = descriptor_bytes (record { addr = table_place q.base head; len = 16 * length b.lengths; flags = 4; next = 0 }) in
+    let sixteen : length named ≡ 16 = refl in
+    let indirect : cost_of_all (indirect_puts q b head) ≤ 16
+    = omega (arith, cost_of_two (table_place q.base head) (q.base + 16 * head) (table_bytes table) named (omega (arith, length-table_bytes table, length-descriptors_of place b.readable_pieces b.lengths (numbers 1 (length b.lengths)))) (omega arith))
+    in
+    let chain : cost_of_all (chain_puts q b places) ≤ 16 = cost_of_either b.indirect (indirect_puts q b head) (direct_puts q b places) 16 indirect direct in
+    let available : cost_of_all (available_puts q head) ≤ 4 = cost_of_two _ _ (little_bytes 2 head) (little_bytes 2 ((q.available + 1) % 2 ^ 16)) (omega arith) (omega arith) in
+    omega (arith, cost_of_post q b places, cost_of_data place b.readable (readable-le b h))

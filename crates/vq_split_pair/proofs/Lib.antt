@@ -1,0 +1,11 @@
+pub mod BufferChains
+pub mod ChainParts
+pub mod Chains
+pub mod Meeting
+pub mod Outcomes
+pub mod Pieces
+pub mod Placed
+pub mod PostParts
+pub mod Tables
+pub mod WalkLaws
+pub mod Written

@@ -1,0 +1,40 @@
+//! The two ends of a split virtqueue over one guest memory (VIRTIO 1.2, 2.7): what the driver posts is what the device
+//! is shown.
+#![tactic(auto)]
+
+ghost use Rattle.std.specs.Prelude.{◌≡◌, ◌≤◌, IsTrue, OnOk, nat_le, false, is_ok, length};
+ghost use Rattle.vt_types.specs.Operation.{posted_buffer};
+ghost use Rattle.vt_types.specs.Program.{run};
+ghost use Rattle.vq_common.specs.Buffer.{IsPostable};
+ghost use Rattle.vq_common.specs.Queue.{DeviceQueue, KeepsBlock, free_slots, holds_tag, post_program, slots_of};
+ghost use Rattle.vq_split_drv.specs.Post.{split_post_accesses, split_posted};
+ghost use Rattle.memory_port.specs.MemoryTable.{memory_table};
+ghost use Rattle.vq_split_pair.specs.Pair.{IsInMemory, HasTakenAll, ShowsBuffer};
+
+use memory_port::MemoryPort;
+use vq_common::{DriverEnd, Full};
+use vq_split_drv::SplitDriver;
+use vt_types::PostBuf;
+
+#[cfg(test)]
+mod tests;
+
+/// Posts a buffer over guest memory, in which the queue block lies whole; the buffer is indirect only where the ring
+/// has INDIRECT_DESC. `Full` comes exactly where the buffer's slots exceed the free ones, and changes nothing. Else,
+/// once the chains before it are taken, the buffer is the chain that the ring shows next: its readable bytes, its room
+/// and its slots (VIRTIO 1.2, 2.7.5 and 2.7.13).
+pub fn post(driver: &mut SplitDriver, port: &mut MemoryPort, buf: &PostBuf) -> Result<(), Full>
+    requires ring { IsInMemory (length port.old.memory) driver.old.queue }
+    requires postable { IsPostable (posted_buffer buf.now) }
+    requires tag { holds_tag buf.now.tag driver.old.queue.unreaped ≡ false }
+    requires table { IsTrue buf.now.indirect → length buf.now.cuts.items ≤ driver.old.queue.cfg.size }
+    requires feature { IsTrue buf.now.indirect → IsTrue driver.old.queue.cfg.indirect }
+    ensures posts { run memory_table (λ mem. mem) (post_program split_post_accesses split_posted driver.old.queue (posted_buffer buf.now)) port.old.memory ≡ ((is_ok result, driver.new.queue), port.new.memory) }
+    ensures full { is_ok result ≡ nat_le (slots_of (posted_buffer buf.now)) (free_slots driver.old.queue) }
+    ensures block { KeepsBlock driver.old.queue driver.new.queue }
+    ensures greatest { driver.new.greatest ≡ driver.old.greatest }
+    ensures memory { length port.new.memory ≡ length port.old.memory }
+    ensures shows { OnOk result ((d : DeviceQueue) → HasTakenAll driver.old.queue d → ShowsBuffer port.new.memory d (posted_buffer buf.now)) }
+{
+    driver.post(port, buf)
+}
