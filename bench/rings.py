@@ -5,7 +5,7 @@ crates/ring_bench has built the program:
 
     python3 bench/rings.py [PROGRAM]
 
-PROGRAM is the built program; by default the newest executable in crates/ring_bench/out. Instructions are those that
+PROGRAM is the built program; by default crates/ring_bench/out/ring_bench. Instructions are those that
 perf counts or, where it counts none, callgrind. Nothing is subtracted: the start of the program is in each figure.
 """
 
@@ -16,7 +16,7 @@ import subprocess
 import sys
 import tempfile
 
-from rounds import measure, newest_program
+from rounds import built_program, measure
 
 # How many times fewer buffers callgrind is given, as it is slow.
 CALLGRIND_SHARE = 20
@@ -52,7 +52,7 @@ def counter():
 
 
 def main():
-    program = sys.argv[1] if len(sys.argv) > 1 else newest_program(os.path.join("crates", "ring_bench"))
+    program = sys.argv[1] if len(sys.argv) > 1 else built_program("ring_bench")
     name, count, share = counter()
     print(f"| Buffers | Seconds | Buffers per second | Peak MiB | Instructions per buffer ({name}) |")
     print("|---|---|---|---|---|")

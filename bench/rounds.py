@@ -4,7 +4,7 @@ time and peak memory. Run it from the repository's top, after `rt run` in crates
 
     python3 bench/rounds.py [PROGRAM]
 
-PROGRAM is the built program; by default the newest executable in crates/vt_cli/out.
+PROGRAM is the built program; by default crates/vt_cli/out/vt_cli.
 """
 
 import os
@@ -45,18 +45,16 @@ def measure(command, path):
     return seconds, usage.ru_maxrss
 
 
-def newest_program(crate):
-    """The newest executable that was built for a crate, by the crate's folder."""
-    folder = os.path.join(crate, "out")
-    found = [os.path.join(folder, name) for name in os.listdir(folder)] if os.path.isdir(folder) else []
-    programs = [path for path in found if os.path.isfile(path) and os.access(path, os.X_OK)]
-    if not programs:
-        sys.exit(f"no program in {folder}: build it by `rt run` in {crate}")
-    return max(programs, key=os.path.getmtime)
+def built_program(crate):
+    """The program that was built for a crate, by the crate's name."""
+    program = os.path.join("crates", crate, "out", crate)
+    if not os.access(program, os.X_OK):
+        sys.exit(f"no program {program}: build it by `rt run` in crates/{crate}")
+    return program
 
 
 def main():
-    program = sys.argv[1] if len(sys.argv) > 1 else newest_program(os.path.join("crates", "vt_cli"))
+    program = sys.argv[1] if len(sys.argv) > 1 else built_program("vt_cli")
     print("| Rounds | Input bytes | vt seconds | vt peak MiB | cat seconds |")
     print("|---|---|---|---|---|")
     for rounds in (1, 1000, 50000):
