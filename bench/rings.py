@@ -6,7 +6,8 @@ crates/ring_bench has built the program:
     python3 bench/rings.py [PROGRAM]
 
 PROGRAM is the built program; by default crates/ring_bench/out/ring_bench. Instructions are those that
-perf counts or, where it counts none, callgrind. Nothing is subtracted: the start of the program is in each figure.
+perf counts or, where it counts none, callgrind. What the program takes for no buffer at all is subtracted from the
+figures per buffer.
 """
 
 import os
@@ -56,11 +57,14 @@ def main():
     name, count, share = counter()
     print(f"| Buffers | Seconds | Buffers per second | Peak MiB | Instructions per buffer ({name}) |")
     print("|---|---|---|---|---|")
+    start, _ = measure([program, "0"], os.devnull)
+    before = count([program, "0"]) if count else 0
     for buffers in (100_000, 1_000_000, 4_000_000):
         seconds, peak = measure([program, str(buffers)], os.devnull)
         fewer = buffers // share
-        each = f"{count([program, str(fewer)]) / fewer:.0f}" if count else "-"
-        print(f"| {buffers} | {seconds:.3f} | {buffers / seconds:.0f} | {peak / 1024:.0f} | {each} |", flush=True)
+        each = f"{(count([program, str(fewer)]) - before) / fewer:.0f}" if count else "-"
+        speed = buffers / (seconds - start)
+        print(f"| {buffers} | {seconds:.3f} | {speed:.0f} | {peak / 1024:.0f} | {each} |", flush=True)
 
 
 if __name__ == "__main__":

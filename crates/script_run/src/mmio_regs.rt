@@ -1,8 +1,9 @@
 //! The MMIO page of the console (VIRTIO 1.2, 4.2.2).
 
-ghost use Rattle.std.specs.Prelude.{◌≡◌};
+ghost use Rattle.std.specs.Prelude.{◌≡◌, ⊤, [], ◌∷◌, codes};
 ghost use Rattle.script_run.specs.MmioTable.{register_at, register_for, is_queue_size};
 
+use bitflags::{Flag, Flags, bitflag_items};
 use vt_types::MAX_QUEUE;
 
 /// Where the console's page begins (our own).
@@ -16,6 +17,39 @@ pub fn is_queue_size(size: u16) -> bool
     ensures { result ≡ is_queue_size size }
 {
     size.is_power_of_two() && size <= MAX_QUEUE
+}
+
+/// Bits of InterruptStatus and InterruptACK (VIRTIO 1.2, 4.2.2).
+#[derive(Clone, Copy, PartialEq, Eq, Debug)]
+pub struct InterruptBits(pub u32);
+
+bitflag_items! {
+    impl InterruptBits: u32 {
+        const USED_BUFFER = 1;
+        const CONFIGURATION_CHANGE = 2;
+    }
+}
+
+impl Flags for InterruptBits {
+    type Bits = u32;
+
+    ghost exact = { ⊤ };
+
+    ghost table = { (codes "USED_BUFFER", 1) ∷ (codes "CONFIGURATION_CHANGE", 2) ∷ [] };
+
+    ghost set_of = { λ p. p.0 };
+
+    fn flags<'a>() -> &'a [Flag<InterruptBits>] {
+        InterruptBits::FLAGS
+    }
+
+    fn bits(&self) -> u32 {
+        self.0
+    }
+
+    fn from_bits_retain(bits: u32) -> InterruptBits {
+        InterruptBits(bits)
+    }
 }
 
 /// A register of a page; `Nothing` where there is none.

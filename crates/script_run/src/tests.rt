@@ -62,6 +62,7 @@ fn with_size(alloc: Global, size: &str) -> Result<String, AllocError> {
 
 const ROUND: &str = "post con 1 7 r:68656c6c6f\nnotify con 1\nev serve con 1\n";
 
+/// The first row. What no contract refuses fails here: a program that always_wants_memory.
 #[test]
 fn five_bytes_over_mmio(rt: HostRuntime) -> Result<(), Fail> {
     let script = joined(rt.alloc(), &[OPENING, ROUND, "reap con 1\n"])?;
@@ -119,9 +120,12 @@ fn ends_and_refusals(rt: HostRuntime) -> Result<(), Fail> {
 
 #[test]
 fn sizes(rt: HostRuntime) -> Result<(), Fail> {
+    let round = "9 ok p=0 n=4\n10 ok p=0 n=1\n12 used 7 0 - p=0 n=2\n";
+    let end = "frames 0\nconsole 68656c6c6f\ndisk 2048\nend\n";
     for size in ["1", "256"] {
-        let script = with_size(rt.alloc(), size)?;
-        let text = joined(rt.alloc(), &[OPENED, END])?;
+        let opening = with_size(rt.alloc(), size)?;
+        let script = joined(rt.alloc(), &[opening.as_str(), ROUND, "reap con 1\n"])?;
+        let text = joined(rt.alloc(), &[OPENED, round, end])?;
         assert_eq!(rt; run(rt.alloc(), &script, &text)?, (0, true));
     }
     let six =
@@ -130,6 +134,17 @@ fn sizes(rt: HostRuntime) -> Result<(), Fail> {
         let script = with_size(rt.alloc(), size)?;
         assert_eq!(rt; run(rt.alloc(), &script, six)?, (3, true));
     }
+    Ok(())
+}
+
+#[test]
+fn a_script_that_is_too_long(rt: HostRuntime) -> Result<(), Fail> {
+    let mut script = joined(rt.alloc(), &[OPENING])?;
+    for _block in 0..1u32 << 22 {
+        script.push_str("0123456789abcdef")?;
+    }
+    let text = joined(rt.alloc(), &[OPENED, "too long\n"])?;
+    assert_eq!(rt; run(rt.alloc(), &script, &text)?, (7, true));
     Ok(())
 }
 

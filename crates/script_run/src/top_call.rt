@@ -59,7 +59,7 @@ fn read_input<S: Source>(alloc: Global, source: &mut S) -> Result<Input, Stop>
 }
 
 /// Runs a script of a source on the MMIO bus, and writes its report.
-fn run_script<S: Source, K: Sink, D: Disk>(
+fn run_mmio<S: Source, K: Sink, D: Disk>(
     alloc: Global,
     source: &mut S,
     sink: &mut K,
@@ -129,7 +129,7 @@ pub fn top<S: Source, K: Sink, D: Disk, W: Watch>(
 {
     if is_run_words(words) {
         let mut disk = disk;
-        let ran = run_script(alloc, source, sink, &mut disk);
+        let ran = run_mmio(alloc, source, sink, &mut disk);
         return Ended {
             status: status_of(ran),
             disk,

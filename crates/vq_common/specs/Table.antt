@@ -21,7 +21,7 @@ pieces_if_direct (Some ds) = if list_all (λ (d : Descriptor). not (is_indirect 
 abbrev pub split_table : List ℕ → ℕ → ℕ → Option (List Piece)
 split_table mem addr len = pieces_if_direct (chain_from (len / 16) mem addr (len / 16) 0)
 
--- a packed descriptor names its piece in the first 12 bytes, and WRITE stands in the last two (VIRTIO 1.2, 2.8.8)
+-- a packed descriptor names its piece in the first 12 bytes, and WRITE stands in the last two (VIRTIO 1.2, 2.8.7)
 abbrev pub packed_piece_in : List ℕ → Piece
 packed_piece_in bytes = record { addr = little_number 8 bytes; len = little_number 4 (drop 8 bytes); write = is_write (little_number 2 (drop 14 bytes)) }
 

@@ -1,4 +1,4 @@
-//! Indirect tables (VIRTIO 1.2, 2.7.5.3 and 2.8.8).
+//! Indirect tables (VIRTIO 1.2, 2.7.5.3 and 2.8.7).
 
 ghost use Rattle.std.specs.Prelude.{◌≡◌, ◌+◌, ◌*◌, ◌≤◌, ◌↔◌, length, IfSome, IsSome, Option, Some};
 ghost use Rattle.guest_mem.specs.Memory.{part};

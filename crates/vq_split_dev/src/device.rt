@@ -12,13 +12,10 @@ use crate::walk::chain_at;
 use byteorder::{ByteOrder, LittleEndian};
 use guest_mem::GuestMem;
 use std::marker::Model;
-use vq_common::{Chain, DeviceEnd, RingCfg, Take};
+use vq_common::{AvailableFlags, Chain, DeviceEnd, RingCfg, Take};
 
 #[cfg(test)]
 mod tests;
-
-/// VIRTQ_AVAIL_F_NO_INTERRUPT: the driver asks for no signal (VIRTIO 1.2, 2.7.7).
-const NO_INTERRUPT: u16 = 1;
 
 /// The device's end of a split virtqueue: the ring's configuration, the number of heads that were taken and the number
 /// of chains that were given back, both modulo 2^16.
@@ -83,7 +80,8 @@ impl SplitDevice {
         if self.cfg.event_idx {
             read16(mem, self.cfg.driver, 4 + 2 * self.cfg.size as u64) == self.used
         } else {
-            read16(mem, self.cfg.driver, 0) & NO_INTERRUPT != NO_INTERRUPT
+            read16(mem, self.cfg.driver, 0) & AvailableFlags::NO_INTERRUPT.0
+                != AvailableFlags::NO_INTERRUPT.0
         }
     }
 }

@@ -20,7 +20,7 @@ use byteorder::{ByteOrder, LittleEndian};
 use std::alloc::Global;
 use std::marker::Model;
 use vq_common::map::{DATA, DATA_LEN, DEVICE_AREA, DRIVER_AREA, TABLE_LEN, TABLES};
-use vq_common::{Descriptor, DescriptorFlags, DriverEnd, Full, Reaped, RingCfg};
+use vq_common::{AvailableFlags, Descriptor, DescriptorFlags, DriverEnd, Full, Reaped, RingCfg};
 use vt_types::{Memory, Port, PostBuf, Room};
 
 /// A driver's end of a split virtqueue (VIRTIO 1.2, 2.7).
@@ -403,7 +403,12 @@ impl DriverEnd for SplitDriver {
 
     fn set_signals<P: Port>(&mut self, port: &mut P, on: bool) {
         let mut bytes = [0u8; 2];
-        LittleEndian::write_u16(&mut bytes, if on { 0 } else { 1 });
+        let flags = if on {
+            0
+        } else {
+            AvailableFlags::NO_INTERRUPT.0
+        };
+        LittleEndian::write_u16(&mut bytes, flags);
         let mut room = Room::new();
         put(port, self.base + DRIVER_AREA, &bytes, &mut room);
         port.mark();

@@ -13,7 +13,7 @@ use std::alloc::Global;
 use std::process::Abort;
 use std::test::Fail;
 use vq_common::map::{DEVICE_AREA, DRIVER_AREA};
-use vq_common::{DeviceEnd, DriverEnd, Full, RingCfg, Take};
+use vq_common::{DeviceEnd, DriverEnd, Full, Reaped, RingCfg, Take};
 use vq_split_dev::SplitDevice;
 use vq_split_drv::SplitDriver;
 use vt_types::{Bytes, Memory, PostBuf, Room};
@@ -21,9 +21,10 @@ use vt_types::{Bytes, Memory, PostBuf, Room};
 /// Where the queue block begins.
 const BASE: u64 = 0x100_0000;
 
-/// A ring of four in the queue block.
-fn ring() -> RingCfg
-    ensures size { result.size ≡ 4 }
+/// A ring of a size in the queue block.
+fn ring(size: u16, event_idx: bool) -> RingCfg
+    requires { IsTrue (is_ring_size size) }
+    ensures size { result.size ≡ size }
     ensures allowed { IsTrue (is_ring_size result.size) }
     ensures indirect { result.indirect ≡ true }
     ensures placed { IsPlaced result BASE }
@@ -32,9 +33,9 @@ fn ring() -> RingCfg
         desc: BASE,
         driver: BASE + DRIVER_AREA,
         device: BASE + DEVICE_AREA,
-        size: 4,
+        size,
         indirect: true,
-        event_idx: false,
+        event_idx,
     }
 }
 
@@ -86,7 +87,7 @@ fn shows(rt: &impl Abort, device: &mut SplitDevice, memory: &GuestMem, slots: u1
 #[test]
 fn posted_buffers_are_shown_in_order(rt: HostRuntime) -> Result<(), Fail> {
     let alloc = rt.alloc();
-    let ring = ring();
+    let ring = ring(4, false);
     let mut driver = SplitDriver::new(alloc, 4)?;
     driver.start(&ring, BASE);
     let mut port = port(alloc, 2 * BASE)?;
@@ -103,5 +104,58 @@ fn posted_buffers_are_shown_in_order(rt: HostRuntime) -> Result<(), Fail> {
     shows(&rt, &mut device, &port.memory, 3, 3);
     shows(&rt, &mut device, &port.memory, 1, 2);
     assert!(rt; matches!(device.take(&port.memory), Take::Empty));
+    Ok(())
+}
+
+/// Both ends of a ring of one, with EVENT_IDX, and the buffer that goes through it.
+#[derive(Drop)]
+struct One {
+    driver: SplitDriver,
+    device: SplitDevice,
+    port: MemoryPort,
+    buffer: PostBuf,
+    ghost size: { driver.queue.cfg.size ≡ 1 },
+    ghost same_ring: { device.cfg ≡ driver.queue.cfg },
+    ghost postable: { IsPostable (posted_buffer buffer) },
+}
+
+impl One {
+    fn new(alloc: Global) -> Result<One, Memory> {
+        let ring = ring(1, true);
+        let mut driver = SplitDriver::new(alloc, 1)?;
+        driver.start(&ring, BASE);
+        Ok(One {
+            driver,
+            device: SplitDevice::new(&ring),
+            port: port(alloc, 2 * BASE)?,
+            buffer: buffer(alloc, 7, 1, false)?,
+        })
+    }
+
+    /// Posts, takes, gives back and reaps the buffer. Answers whether the device signals.
+    fn round(&mut self, rt: &impl Abort) -> bool {
+        assert!(rt; !self.driver.has_tag(self.buffer.tag));
+        assert!(rt; !self.buffer.indirect);
+        let posted = self.driver.post(&mut self.port, &self.buffer);
+        assert!(rt; posted.is_ok());
+        let Take::Front(chain) = self.device.take(&self.port.memory) else {
+            panic!(rt; "no chain is shown");
+        };
+        assert!(rt; chain.slots == 1);
+        let signals = self.device.give(&mut self.port.memory, &chain, 0);
+        let mut room = Room::new();
+        let reaped = self.driver.reap(&mut self.port, &mut room);
+        assert_eq!(rt; reaped, Some(Reaped { tag: 7, len: 0 }));
+        signals
+    }
+}
+
+/// With EVENT_IDX each buffer of a ring of one is signalled, also where the indices begin again at 0.
+#[test]
+fn indices_go_past_65535(rt: HostRuntime) -> Result<(), Fail> {
+    let mut one = One::new(rt.alloc())?;
+    for round in 0..65_540u32 {
+        assert!(rt; one.round(&rt), "in round {round}");
+    }
     Ok(())
 }

@@ -3,8 +3,8 @@
 #![tactic(auto)]
 
 use script_run::top;
-use std::env;
 use std::process::ExitCode;
+use std::{env, io};
 use vt_outside::{MemDisk, NoWatch, StdSink, StdSource};
 use vt_types::Bytes;
 
@@ -14,16 +14,27 @@ const SECTORS: u32 = 2048;
 /// The status where there is no memory for the words or the disk.
 const NO_MEMORY: u8 = 6;
 
-fn main(rt: HostRuntime) -> ExitCode {
+/// The words after the program's name; None where there is no memory for them. Words that are no text are in no
+/// grammar, so none stand for them.
+fn words(rt: &HostRuntime) -> Option<Vec<String>> {
     let mut words = Vec::new(rt.alloc());
-    let Ok(args) = env::args(&rt) else {
-        return ExitCode::from(NO_MEMORY);
+    let args = match env::args(rt) {
+        Ok(args) => args,
+        Err(error) if error.kind() == io::ErrorKind::OutOfMemory => return None,
+        Err(_) => return Some(words),
     };
     for word in args.skip(1) {
         if words.push(word).is_err() {
-            return ExitCode::from(NO_MEMORY);
+            return None;
         }
     }
+    Some(words)
+}
+
+fn main(rt: HostRuntime) -> ExitCode {
+    let Some(words) = words(&rt) else {
+        return ExitCode::from(NO_MEMORY);
+    };
     let fails = Bytes::new(rt.alloc());
     let Ok(disk) = MemDisk::new(rt.alloc(), SECTORS, false, fails) else {
         return ExitCode::from(NO_MEMORY);

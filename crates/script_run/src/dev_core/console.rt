@@ -11,7 +11,7 @@ ghost use Rattle.script_run.specs.RawState.{RawQueue, new_raw_device, CONSOLE_FE
 ghost use Rattle.script_run.specs.ServeSteps.{is_queue_served, shown_by, device_after, IsGivable, DeviceGives};
 
 use crate::dev_core::queue_slot::QueueSlot;
-use crate::mmio_regs::Register;
+use crate::mmio_regs::{InterruptBits, Register};
 use bitflags::Flags;
 use dev_status::StatusMachine;
 use guest_mem::GuestMem;
@@ -40,12 +40,6 @@ const DEVICE_ID: u32 = 3;
 /// Our own.
 const VENDOR_ID: u32 = 0x1af4;
 
-/// A queue's signal in InterruptStatus (VIRTIO 1.2, 4.2.2).
-const USED_BUFFER: u32 = 1;
-
-/// The configuration's signal there.
-const CONFIGURATION_CHANGE: u32 = 2;
-
 /// The console with the registers of its page: its receive queue (0) and its transmit queue (1).
 #[derive(Drop)]
 pub struct Console {
@@ -72,17 +66,19 @@ impl Model for Console {
 fn cleared(acknowledged: u32, signals: u32) -> u32
     ensures { result ≡ cleared acknowledged signals }
 {
-    let queue = if acknowledged & 1 == 1 {
+    let used = InterruptBits::USED_BUFFER.0;
+    let config = InterruptBits::CONFIGURATION_CHANGE.0;
+    let left_used = if acknowledged & used == used {
         0
     } else {
-        signals & 1
+        signals & used
     };
-    let config = if acknowledged & 2 == 2 {
+    let left_config = if acknowledged & config == config {
         0
     } else {
-        signals & 2
+        signals & config
     };
-    queue + config
+    left_used + left_config
 }
 
 impl Console {
@@ -178,7 +174,7 @@ impl Console {
         ensures { (q : RawQueue) (ring : DeviceQueue) → slice_get self.old.queues number ≡ Some q → q.ring ≡ Some ring → DeviceGives (split_given mem.old ring (chain_value chain.now) len) self.old number q mem.new self.new }
     {
         if self.queues[number as usize].give(mem, chain, len) {
-            self.interrupt_status |= USED_BUFFER;
+            self.interrupt_status |= InterruptBits::USED_BUFFER.0;
         }
     }
 
@@ -187,7 +183,7 @@ impl Console {
         ensures { self.new ≡ with_config_signal (has_bits self.old.status.status DRIVER_OK) (record self.old { status = needs_reset_of self.old.status }) }
     {
         if Status(self.status.status()).contains(Status::DRIVER_OK) {
-            self.interrupt_status |= CONFIGURATION_CHANGE;
+            self.interrupt_status |= InterruptBits::CONFIGURATION_CHANGE.0;
         }
         self.status.needs_reset();
     }

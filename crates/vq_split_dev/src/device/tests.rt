@@ -1,4 +1,4 @@
-ghost use Rattle.std.specs.Prelude.{◌≡◌};
+ghost use Rattle.std.specs.Prelude.{◌≡◌, ◌+◌, ◌≤◌, ◌<◌};
 
 use super::SplitDevice;
 use crate::areas::areas_inside;
@@ -119,6 +119,11 @@ const ONE: Descriptor = Descriptor {
     len: 16,
     flags: 0,
     next: 0,
+};
+
+const WRITABLE: Descriptor = Descriptor {
+    flags: WRITE,
+    ..ONE
 };
 
 const MORE: Descriptor = Descriptor {
@@ -467,18 +472,76 @@ fn shows_chains(rt: HostRuntime) -> Result<(), Fail> {
     check_rows(&rt, rt.alloc(), &TABLES)
 }
 
+/// So many linked descriptors, then a last one.
+fn linked(before: usize, last: Descriptor) -> [Descriptor; 9]
+    requires { before < 9 }
+{
+    let mut descriptors = NINE;
+    descriptors[before] = last;
+    descriptors
+}
+
+/// Checks a chain of so many pieces, then a table of so many more where there are any.
+fn check_chain(
+    rt: &impl Abort,
+    mem: &mut GuestMem,
+    size: u16,
+    direct: usize,
+    in_table: usize,
+    shows: Shows,
+)
+    requires some { 1 ≤ direct + in_table }
+    requires few { direct + in_table ≤ 9 }
+{
+    let (descriptors, table) = if in_table == 0 {
+        (linked(direct - 1, ONE), NINE)
+    } else {
+        let names_table = Descriptor {
+            len: 16 * in_table as u32,
+            ..TABLE_OF_3
+        };
+        (linked(direct, names_table), linked(in_table - 1, ONE))
+    };
+    let row = Row {
+        name: "linked",
+        size,
+        indirect: in_table > 0,
+        available: 1,
+        head: 0,
+        descriptors: &descriptors,
+        table: &table,
+        shows,
+    };
+    assert_eq!(rt;
+        row_shows(rt, mem, &row),
+        shows,
+        "{direct} and {in_table} on {size}"
+    );
+}
+
+/// Chains of 1 to 9 pieces: the first of them are the ring's own descriptors, and the rest lie in a table.
+#[test]
+fn shows_up_to_8_pieces(rt: HostRuntime) -> Result<(), Fail> {
+    for size in [8u16, 16] {
+        for total in 1..10usize {
+            let shows = if total <= 8 {
+                Shows::Pieces(total)
+            } else {
+                Shows::Bad
+            };
+            for direct in 0..total + 1 {
+                let mut mem = GuestMem::new(rt.alloc(), MEMORY)?;
+                check_chain(&rt, &mut mem, size, direct, total - direct, shows);
+            }
+        }
+    }
+    Ok(())
+}
+
 #[test]
 fn counts_past_65535(rt: HostRuntime) -> Result<(), Fail> {
     let mut mem = GuestMem::new(rt.alloc(), MEMORY)?;
-    put_table(
-        &rt,
-        &mut mem,
-        0,
-        &[Descriptor {
-            flags: WRITE,
-            ..ONE
-        }],
-    );
+    put_table(&rt, &mut mem, 0, &[WRITABLE]);
     put16(&rt, &mut mem, DRIVER + 6, 65_535);
     let mut device = SplitDevice::new(&cfg(1, false, true));
     for round in 0..65_540u32 {
@@ -500,15 +563,7 @@ fn counts_past_65535(rt: HostRuntime) -> Result<(), Fail> {
 #[test]
 fn gives_in_any_order(rt: HostRuntime) -> Result<(), Fail> {
     let mut mem = GuestMem::new(rt.alloc(), MEMORY)?;
-    put_table(
-        &rt,
-        &mut mem,
-        0,
-        &[Descriptor {
-            flags: WRITE,
-            ..ONE
-        }; 4],
-    );
+    put_table(&rt, &mut mem, 0, &[WRITABLE; 4]);
     put16(&rt, &mut mem, DRIVER + 2, 2);
     put16(&rt, &mut mem, DRIVER + 4, 3);
     put16(&rt, &mut mem, DRIVER + 6, 1);

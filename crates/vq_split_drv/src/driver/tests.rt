@@ -126,7 +126,7 @@ enum Ask<'a> {
 }
 
 fn started(alloc: Global, size: u16, event_idx: bool) -> Result<SplitDriver, Memory> {
-    let mut driver = SplitDriver::new(alloc, 8)?;
+    let mut driver = SplitDriver::new(alloc, 256)?;
     let cfg = RingCfg {
         desc: 0x100_0000,
         driver: 0x100_4000,
@@ -134,6 +134,7 @@ fn started(alloc: Global, size: u16, event_idx: bool) -> Result<SplitDriver, Mem
         size: match size {
             1 => 1,
             2 => 2,
+            256 => 256,
             _ => 8,
         },
         indirect: true,
@@ -212,9 +213,13 @@ fn try_one<'a>(
     Ok(())
 }
 
+fn count_puts(text: &str) -> usize {
+    text.lines().filter(|line| line.starts_with("put ")).count()
+}
+
 #[test]
 fn posts_until_full(rt: HostRuntime) -> Result<(), Fail> {
-    for size in [1u16, 2, 8] {
+    for size in [1u16, 2, 8, 256] {
         let mut driver = started(rt.alloc(), size, false)?;
         for tag in 0..size {
             let buf = buffer(rt.alloc(), tag, 1, false)?;
@@ -237,142 +242,182 @@ fn posts_until_full(rt: HostRuntime) -> Result<(), Fail> {
     Ok(())
 }
 
+/// Chains of 1 to 8 pieces on a ring of 8: of the ring's own descriptors, and as a table.
+#[test]
+fn posts_chains_of_1_to_8_pieces(rt: HostRuntime) -> Result<(), Fail> {
+    for indirect in [false, true] {
+        for pieces in 1..9usize {
+            let mut driver = started(rt.alloc(), 8, false)?;
+            let buf = buffer(rt.alloc(), 1, pieces, indirect)?;
+            let mut port = Lines {
+                text: String::new(rt.alloc()),
+                answers: &[],
+                next: 0,
+            };
+            assert!(rt;
+                post(&rt, &mut driver, &mut port, &buf),
+                "{pieces}, {indirect}"
+            );
+            let (slots, puts) = if indirect {
+                (1, 5)
+            } else {
+                (pieces, pieces + 3)
+            };
+            assert_eq!(rt;
+                count_puts(port.text.as_str()),
+                puts,
+                "{pieces}, {indirect}"
+            );
+            assert_eq!(rt;
+                usize::from(driver.free()),
+                8 - slots,
+                "{pieces}, {indirect}"
+            );
+        }
+    }
+    Ok(())
+}
+
+const REAPS_AND_POSTS: [(Ask<'static>, &str); 8] = [
+    (
+        Ask::Post {
+            tag: 1,
+            pieces: 3,
+            indirect: false,
+            fits: true,
+        },
+        "put 1400000 a0b0\nput 1000000 00004001000000000200000001000100\nput 1000010 02004001000000000200000003000200\nput 1000020 04004001000000000200000002000000\nput 1004004 0000\nput 1004002 0100\nmark\n",
+    ),
+    (
+        Ask::Post {
+            tag: 2,
+            pieces: 2,
+            indirect: false,
+            fits: true,
+        },
+        "put 1406000 a0b0\nput 1000030 00604001000000000200000001000400\nput 1000040 02604001000000000200000002000000\nput 1004006 0300\nput 1004002 0200\nmark\n",
+    ),
+    (
+        Ask::Post {
+            tag: 3,
+            pieces: 1,
+            indirect: false,
+            fits: true,
+        },
+        "put 140a000 a0b0\nput 1000050 00a04001000000000200000000000000\nput 1004008 0500\nput 1004002 0300\nmark\n",
+    ),
+    (
+        Ask::Reap {
+            answers: &[
+                (Answer::Got, &[1, 0]),
+                (Answer::Got, &[3, 0, 0, 0, 0, 0, 0, 0]),
+            ],
+            want: Some(Reaped { tag: 2, len: 0 }),
+            bytes: &[],
+        },
+        "get 1006002 2\nmark\nget 1006004 8\n",
+    ),
+    (
+        Ask::Post {
+            tag: 4,
+            pieces: 4,
+            indirect: false,
+            fits: true,
+        },
+        "put 1406000 a0b0\nput 1000030 00604001000000000200000001000400\nput 1000040 02604001000000000200000003000600\nput 1000060 04604001000000000200000003000700\nput 1000070 06604001000000000200000002000000\nput 100400a 0300\nput 1004002 0400\nmark\n",
+    ),
+    (
+        Ask::Post {
+            tag: 5,
+            pieces: 1,
+            indirect: true,
+            fits: false,
+        },
+        "",
+    ),
+    (
+        Ask::Reap {
+            answers: &[
+                (Answer::Got, &[2, 0]),
+                (Answer::Got, &[0, 0, 0, 0, 3, 0, 0, 0]),
+                (Answer::Got, &[1, 2, 3]),
+            ],
+            want: Some(Reaped { tag: 1, len: 3 }),
+            bytes: &[1, 2, 3],
+        },
+        "get 1006002 2\nmark\nget 100600c 8\nget 1400002 3\n",
+    ),
+    (
+        Ask::Post {
+            tag: 5,
+            pieces: 3,
+            indirect: true,
+            fits: true,
+        },
+        "put 1400000 a0b0\nput 1020000 000040010000000002000000010001000200400100000000020000000300020004004001000000000200000002000000\nput 1000000 00000201000000003000000004000000\nput 100400c 0000\nput 1004002 0500\nmark\n",
+    ),
+];
+
 /// Eight descriptors: buffers are reaped in another order, and the lowest free descriptors are taken.
 #[test]
 fn reaps_and_posts_again(rt: HostRuntime) -> Result<(), Fail> {
     let mut driver = started(rt.alloc(), 8, false)?;
-    for (ask, lines) in [
-        (
-            Ask::Post {
-                tag: 1,
-                pieces: 3,
-                indirect: false,
-                fits: true,
-            },
-            "put 1400000 a0b0\nput 1000000 00004001000000000200000001000100\nput 1000010 02004001000000000200000003000200\nput 1000020 04004001000000000200000002000000\nput 1004004 0000\nput 1004002 0100\nmark\n",
-        ),
-        (
-            Ask::Post {
-                tag: 2,
-                pieces: 2,
-                indirect: false,
-                fits: true,
-            },
-            "put 1406000 a0b0\nput 1000030 00604001000000000200000001000400\nput 1000040 02604001000000000200000002000000\nput 1004006 0300\nput 1004002 0200\nmark\n",
-        ),
-        (
-            Ask::Post {
-                tag: 3,
-                pieces: 1,
-                indirect: false,
-                fits: true,
-            },
-            "put 140a000 a0b0\nput 1000050 00a04001000000000200000000000000\nput 1004008 0500\nput 1004002 0300\nmark\n",
-        ),
-        (
-            Ask::Reap {
-                answers: &[
-                    (Answer::Got, &[1, 0]),
-                    (Answer::Got, &[3, 0, 0, 0, 0, 0, 0, 0]),
-                ],
-                want: Some(Reaped { tag: 2, len: 0 }),
-                bytes: &[],
-            },
-            "get 1006002 2\nmark\nget 1006004 8\n",
-        ),
-        (
-            Ask::Post {
-                tag: 4,
-                pieces: 4,
-                indirect: false,
-                fits: true,
-            },
-            "put 1406000 a0b0\nput 1000030 00604001000000000200000001000400\nput 1000040 02604001000000000200000003000600\nput 1000060 04604001000000000200000003000700\nput 1000070 06604001000000000200000002000000\nput 100400a 0300\nput 1004002 0400\nmark\n",
-        ),
-        (
-            Ask::Post {
-                tag: 5,
-                pieces: 1,
-                indirect: true,
-                fits: false,
-            },
-            "",
-        ),
-        (
-            Ask::Reap {
-                answers: &[
-                    (Answer::Got, &[2, 0]),
-                    (Answer::Got, &[0, 0, 0, 0, 3, 0, 0, 0]),
-                    (Answer::Got, &[1, 2, 3]),
-                ],
-                want: Some(Reaped { tag: 1, len: 3 }),
-                bytes: &[1, 2, 3],
-            },
-            "get 1006002 2\nmark\nget 100600c 8\nget 1400002 3\n",
-        ),
-        (
-            Ask::Post {
-                tag: 5,
-                pieces: 3,
-                indirect: true,
-                fits: true,
-            },
-            "put 1400000 a0b0\nput 1020000 000040010000000002000000010001000200400100000000020000000300020004004001000000000200000002000000\nput 1000000 00000201000000003000000004000000\nput 100400c 0000\nput 1004002 0500\nmark\n",
-        ),
-    ] {
+    for (ask, lines) in REAPS_AND_POSTS {
         try_one(&rt, rt.alloc(), &mut driver, ask, lines)?;
     }
     Ok(())
 }
 
+const SIGNALS: [(Ask<'static>, &str); 6] = [
+    (
+        Ask::Post {
+            tag: 9,
+            pieces: 1,
+            indirect: false,
+            fits: true,
+        },
+        "put 1400000 a0b0\nput 1000000 00004001000000000200000000000000\nput 1004004 0000\nput 1004002 0100\nmark\n",
+    ),
+    (
+        Ask::Reap {
+            answers: &[
+                (Answer::Got, &[1, 0]),
+                (Answer::Got, &[0, 0, 0, 0, 1, 0, 0, 0]),
+                (Answer::Got, &[5]),
+            ],
+            want: Some(Reaped { tag: 9, len: 1 }),
+            bytes: &[5],
+        },
+        "get 1006002 2\nget 1006004 8\nget 1400002 1\nput 1004008 0100\nmark\n",
+    ),
+    (
+        Ask::Reap {
+            answers: &[(Answer::Got, &[1, 0])],
+            want: None,
+            bytes: &[],
+        },
+        "get 1006002 2\nmark\n",
+    ),
+    (
+        Ask::Reap {
+            answers: &[
+                (Answer::Got, &[2, 0]),
+                (Answer::Got, &[0, 0, 0, 0, 1, 0, 0, 0]),
+            ],
+            want: None,
+            bytes: &[],
+        },
+        "get 1006002 2\nget 100600c 8\nmark\n",
+    ),
+    (Ask::Signals(true), "put 1004000 0000\nmark\n"),
+    (Ask::Signals(false), "put 1004000 0100\nmark\n"),
+];
+
 /// With EVENT_IDX a reap asks for the next signal, and that put is marked.
 #[test]
 fn asks_for_the_next_signal(rt: HostRuntime) -> Result<(), Fail> {
     let mut driver = started(rt.alloc(), 2, true)?;
-    for (ask, lines) in [
-        (
-            Ask::Post {
-                tag: 9,
-                pieces: 1,
-                indirect: false,
-                fits: true,
-            },
-            "put 1400000 a0b0\nput 1000000 00004001000000000200000000000000\nput 1004004 0000\nput 1004002 0100\nmark\n",
-        ),
-        (
-            Ask::Reap {
-                answers: &[
-                    (Answer::Got, &[1, 0]),
-                    (Answer::Got, &[0, 0, 0, 0, 1, 0, 0, 0]),
-                    (Answer::Got, &[5]),
-                ],
-                want: Some(Reaped { tag: 9, len: 1 }),
-                bytes: &[5],
-            },
-            "get 1006002 2\nget 1006004 8\nget 1400002 1\nput 1004008 0100\nmark\n",
-        ),
-        (
-            Ask::Reap {
-                answers: &[(Answer::Got, &[1, 0])],
-                want: None,
-                bytes: &[],
-            },
-            "get 1006002 2\nmark\n",
-        ),
-        (
-            Ask::Reap {
-                answers: &[
-                    (Answer::Got, &[2, 0]),
-                    (Answer::Got, &[0, 0, 0, 0, 1, 0, 0, 0]),
-                ],
-                want: None,
-                bytes: &[],
-            },
-            "get 1006002 2\nget 100600c 8\nmark\n",
-        ),
-        (Ask::Signals(true), "put 1004000 0000\nmark\n"),
-        (Ask::Signals(false), "put 1004000 0100\nmark\n"),
-    ] {
+    for (ask, lines) in SIGNALS {
         try_one(&rt, rt.alloc(), &mut driver, ask, lines)?;
     }
     Ok(())
@@ -382,71 +427,73 @@ const IDLE: &str = "get 1006002 2\nmark\n";
 
 const USED: &str = "get 1006002 2\nmark\nget 1006004 8\n";
 
+const HOSTILE: [(Ask<'static>, &str); 6] = [
+    (
+        Ask::Post {
+            tag: 9,
+            pieces: 2,
+            indirect: false,
+            fits: true,
+        },
+        "put 1400000 a0b0\nput 1000000 00004001000000000200000001000100\nput 1000010 02004001000000000200000002000000\nput 1004004 0000\nput 1004002 0100\nmark\n",
+    ),
+    (
+        Ask::Reap {
+            answers: &[(Answer::Word(1), &[1, 0])],
+            want: None,
+            bytes: &[],
+        },
+        IDLE,
+    ),
+    (
+        Ask::Reap {
+            answers: &[(Answer::Got, &[1, 0, 0])],
+            want: None,
+            bytes: &[],
+        },
+        IDLE,
+    ),
+    (
+        Ask::Reap {
+            answers: &[
+                (Answer::Got, &[1, 0]),
+                (Answer::Got, &[1, 0, 0, 0, 0, 0, 0, 0]),
+            ],
+            want: None,
+            bytes: &[],
+        },
+        USED,
+    ),
+    (
+        Ask::Reap {
+            answers: &[
+                (Answer::Got, &[1, 0]),
+                (Answer::Got, &[0, 0, 0, 0, 1, 32, 0, 0]),
+            ],
+            want: None,
+            bytes: &[],
+        },
+        USED,
+    ),
+    (
+        Ask::Reap {
+            answers: &[
+                (Answer::Got, &[1, 0]),
+                (Answer::Got, &[0, 0, 0, 0, 3, 0, 0, 0]),
+                (Answer::Got, &[1, 2]),
+            ],
+            want: Some(Reaped { tag: 9, len: 3 }),
+            bytes: &[0, 0, 0],
+        },
+        "get 1006002 2\nmark\nget 1006004 8\nget 1400002 3\n",
+    ),
+];
+
 /// Answers of another form, other numbers of bytes, an id that nobody posted, a length that is too great.
 #[test]
 fn takes_hostile_answers(rt: HostRuntime) -> Result<(), Fail> {
     let mut driver = started(rt.alloc(), 2, false)?;
-    for (ask, lines) in [
-        (
-            Ask::Post {
-                tag: 9,
-                pieces: 2,
-                indirect: false,
-                fits: true,
-            },
-            "put 1400000 a0b0\nput 1000000 00004001000000000200000001000100\nput 1000010 02004001000000000200000002000000\nput 1004004 0000\nput 1004002 0100\nmark\n",
-        ),
-        (
-            Ask::Reap {
-                answers: &[(Answer::Word(1), &[1, 0])],
-                want: None,
-                bytes: &[],
-            },
-            IDLE,
-        ),
-        (
-            Ask::Reap {
-                answers: &[(Answer::Got, &[1, 0, 0])],
-                want: None,
-                bytes: &[],
-            },
-            IDLE,
-        ),
-        (
-            Ask::Reap {
-                answers: &[
-                    (Answer::Got, &[1, 0]),
-                    (Answer::Got, &[1, 0, 0, 0, 0, 0, 0, 0]),
-                ],
-                want: None,
-                bytes: &[],
-            },
-            USED,
-        ),
-        (
-            Ask::Reap {
-                answers: &[
-                    (Answer::Got, &[1, 0]),
-                    (Answer::Got, &[0, 0, 0, 0, 1, 32, 0, 0]),
-                ],
-                want: None,
-                bytes: &[],
-            },
-            USED,
-        ),
-        (
-            Ask::Reap {
-                answers: &[
-                    (Answer::Got, &[1, 0]),
-                    (Answer::Got, &[0, 0, 0, 0, 3, 0, 0, 0]),
-                    (Answer::Got, &[1, 2]),
-                ],
-                want: Some(Reaped { tag: 9, len: 3 }),
-                bytes: &[0, 0, 0],
-            },
-            "get 1006002 2\nmark\nget 1006004 8\nget 1400002 3\n",
-        ),
-    ] {
+    for (ask, lines) in HOSTILE {
         try_one(&rt, rt.alloc(), &mut driver, ask, lines)?;
     }
     assert_eq!(rt; driver.free(), 2);

@@ -2,7 +2,7 @@ use Rattle.std.proofs.Common.{◌≡◌, false, arith}
 use Rattle.std.specs.Prelude.{◌==◌}
 use Rattle.std.proofs.lemmas.Bool.Decides.{nat_tests}
 use Rattle.script_run.proofs.ScriptRunLaws.{unread, stopped_early, lines_ended, lines_stopped, script_ended, ending_stopped}
-use Rattle.script_run.proofs.top_call.run_script.Goals as goal
+use Rattle.script_run.proofs.top_call.run_mmio.Goals as goal
 
 pub returns-in-Err : goal.returns-in-Err
 returns-in-Err g c = unread _ _ _ _ c.in-Err.stop c.in-Err.ensures
