@@ -18,7 +18,6 @@ pub mod PostedLaw
 pub mod PutsLaw
 pub mod PutsTrace
 pub mod QueueLaw
-pub mod Ran
 pub mod ReadLaws
 pub mod ReapProgram
 pub mod ReapRound

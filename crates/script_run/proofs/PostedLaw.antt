@@ -1,7 +1,5 @@
 -- Where a buffer was posted the transmit queue's ring shows its one piece.
-use Rattle.std.proofs.Common.{◌≡◌, ℕ, ◌+◌, ◌-◌, ◌*◌, ◌%◌, ◌^◌, ◌<◌, ◌≤◌, List, length, true, refl, sym, ◌∙◌, ap, subst, arith}
-use Rattle.std.specs.Prelude.{nat_le}
-use Rattle.std.proofs.lemmas.Bool.Decides.{nat_tests}
+use Rattle.std.proofs.Common.{◌≡◌, ℕ, ◌+◌, ◌-◌, ◌%◌, ◌^◌, ◌<◌, List, length, refl, sym, ◌∙◌, ap, subst, arith}
 use Rattle.guest_mem.specs.Memory.{le16_at}
 use Rattle.vq_common.specs.declared.chain.RingCfg.{RingCfg}
 use Rattle.vq_common.specs.declared.descriptor.Descriptor.{Descriptor}
@@ -9,7 +7,8 @@ use Rattle.vq_common.specs.Chain.{Front}
 use Rattle.vq_common.specs.Descriptor.{descriptor_at}
 use Rattle.vq_common.specs.Map.{driver_area, device_area, data_place}
 use Rattle.vq_common.specs.Queue.{DeviceQueue, DriverQueue}
-use Rattle.vq_split_dev.specs.Walk.{split_walk, split_areas_inside, waiting_heads, next_head}
+use Rattle.vq_split_dev.specs.Walk.{split_walk, waiting_heads, next_head}
+use Rattle.vq_split_pair.proofs.WalkLaws.{areas_fit, one_waits}
 use Rattle.abstract_devices.specs.World.{AbstractQueue, Buffer}
 use Rattle.script_run.specs.Lowering.{DriverRecord, cfg_of, queue_block}
 use Rattle.script_run.proofs.Sizes.{IsSize}
@@ -37,16 +36,6 @@ lies_at c known size is =
       places = ap (λ (r : RingCfg). r.size) is;
     }
 
-areas_inside : (memory : ℕ) (c : RingCfg) → c.desc + 16 * c.size ≤ memory → c.driver + (6 + 2 * c.size) ≤ memory → c.device + (6 + 8 * c.size) ≤ memory → split_areas_inside memory c ≡ true
-areas_inside memory c first second third =
-    let one : nat_le (c.desc + 16 * c.size) memory ≡ true = grind (arith, nat_tests) in
-    let two : nat_le (c.driver + (6 + 2 * c.size)) memory ≡ true = grind (arith, nat_tests) in
-    let three : nat_le (c.device + (6 + 8 * c.size)) memory ≡ true = grind (arith, nat_tests) in
-    rw (one, two, three) refl
-
-one_waiting : (index rounds taken : ℕ) → rounds < 2 ^ 16 → taken ≡ rounds → index ≡ (rounds + 1) % 2 ^ 16 → (index + 2 ^ 16 - taken) % 2 ^ 16 ≡ 1
-one_waiting index rounds taken fits same is = omega arith
-
 module _ (rounds size : ℕ) (b : Buffer) (mem : List ℕ) (q : AbstractQueue) (ring : DeviceQueue) (d : DriverQueue) (fits : rounds < 2 ^ 16) (sized : IsSize size) (lies : LiesAt ring.cfg size) (long : length mem ≡ 2 ^ 28) (posted : PostedRing rounds size b mem q ring d) where
   shown : descriptor_at mem ring.cfg.desc 0 ≡ posted_descriptor b
   shown = ap (λ (a : ℕ). descriptor_at mem a 0) lies.desc ∙ posted.descriptor
@@ -55,7 +44,11 @@ module _ (rounds size : ℕ) (b : Buffer) (mem : List ℕ) (q : AbstractQueue) (
   may_be_served = record { flags = refl; some = posted.piece.some; few = posted.piece.few; inside = omega arith }
 
   waits : waiting_heads mem ring ≡ 1
-  waits = one_waiting (le16_at mem (ring.cfg.driver + 2)) rounds ring.taken fits posted.ring_taken (ap (λ (a : ℕ). le16_at mem (a + 2)) lies.driver ∙ posted.index)
+  waits =
+      ap (λ (a : ℕ). (le16_at mem (a + 2) + 2 ^ 16 - ring.taken) % 2 ^ 16) lies.driver
+      ∙ ap (λ (i : ℕ). (i + 2 ^ 16 - ring.taken) % 2 ^ 16) posted.index
+      ∙ ap (λ (t : ℕ). ((rounds + 1) % 2 ^ 16 + 2 ^ 16 - t) % 2 ^ 16) posted.ring_taken
+      ∙ one_waits rounds fits
 
   head : next_head mem ring ≡ 0
   head = rw (lies.driver, lies.places, posted.ring_taken) posted.entry
@@ -64,7 +57,7 @@ module _ (rounds size : ℕ) (b : Buffer) (mem : List ℕ) (q : AbstractQueue) (
   pub posted_walk : split_walk mem ring ≡ Front (one_piece (posted_descriptor b))
   posted_walk =
       walk_one mem ring
-      (areas_inside (length mem) ring.cfg (omega arith) (omega arith) (omega arith))
+      (areas_fit (length mem) ring.cfg (omega arith) (omega arith) (omega arith))
       (omega arith) waits head
       (subst (IsReadable (length mem)) (sym shown) may_be_served)
       ∙ ap (λ (e : Descriptor). Front (one_piece e)) shown

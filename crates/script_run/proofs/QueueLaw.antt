@@ -1,9 +1,7 @@
-use Rattle.std.proofs.Common.{◌≡◌, ℕ, ◌+◌, ◌%◌, ◌≤◌, ◌^◌, List, [], ◌∷◌, length, true, false, Some, None, refl, ap, ◌∙◌, lit≤, lit<, replicate}
-use Rattle.std.specs.Prelude.{IsTrue, nat_le}
+use Rattle.std.proofs.Common.{◌≡◌, ℕ, ◌+◌, ◌%◌, ◌≤◌, ◌^◌, List, [], ◌∷◌, length, false, Some, None, refl, ap, ◌∙◌, lit≤, lit<, replicate}
+use Rattle.std.specs.Prelude.{IsTrue}
 use Rattle.vt_types.specs.declared.device.Dev.TheVariants.{Con}
 use Rattle.vt_types.specs.declared.operation.Step.TheVariants as step
-use Rattle.vt_types.specs.declared.access.Answer.TheVariants as answer
-use Rattle.vt_types.specs.Access as access
 use Rattle.vt_types.specs.Operation.{SetStatus, SetQueue}
 use Rattle.vt_types.specs.Reply as reply
 use Rattle.vq_common.specs.Queue.{DeviceQueue, new_driver_queue, new_device_queue}
@@ -14,16 +12,16 @@ use Rattle.abstract_devices.specs.World.{World}
 use Rattle.std.proofs.lemmas.List.{length-replicate}
 use Rattle.guest_mem.proofs.Parts.{length-put_at}
 use Rattle.script_run.specs.Lowering.{DriverRecord, QUEUE_AREAS, setq_program, describe_queue, with_driver_queue, cfg_of}
-use Rattle.script_run.specs.MmioTable.{is_queue_size, only, set_ready}
+use Rattle.script_run.specs.MmioTable.{is_queue_size, set_ready}
 use Rattle.script_run.specs.RawState.{RawState, RawDevice, RawQueue, new_raw_queue, CONSOLE_FEATURES}
 use Rattle.script_run.specs.Script.{Operates}
 use Rattle.script_run.proofs.Stands.{Opening, Running, Idle}
-use Rattle.script_run.proofs.LineHolds.{LineHolds}
-use Rattle.script_run.proofs.Ran.{run_from, run_step, line_by_run}
+use Rattle.script_run.proofs.LineHolds.{LineHolds, line_told}
+use Rattle.script_run.proofs.TraceSteps.{tells, zero_step}
 
-areas_fit : (mem : List ℕ) → length mem ≡ 2 ^ 28 → nat_le (83886080 + QUEUE_AREAS) (length mem) ≡ true
+areas_fit : (mem : List ℕ) → length mem ≡ 2 ^ 28 → 0x5000000 + QUEUE_AREAS ≤ length mem
 unfolding QUEUE_AREAS
-areas_fit mem e = rw e refl
+areas_fit mem e = rw e (lit≤ tt)
 
 -- the console when no queue is set
 abbrev bare : ℕ → ℕ → ℕ → ℕ → RawDevice
@@ -46,15 +44,17 @@ abbrev set_to : ℕ → RawDevice → RawDevice
 set_to size d = record d { queue_select = 1; queues = new_raw_queue ∷ set_ready (2 ^ 32) 1 (described size) ∷ [] }
 
 queue_run : (size : ℕ) (mem waiting console : List ℕ) (known : DriverRecord) (a b c i : ℕ) → length mem ≡ 2 ^ 28
-    → run_from (setq_program known 1 size) (record { memory = mem; con = bare a b c i; waiting = waiting; console = console }) 0
+    → tells (setq_program known 1 size) (record { memory = mem; con = bare a b c i; waiting = waiting; console = console }) 0
     ≡ record {
-      ended = record { reply = reply.Good; known = with_driver_queue known 1 (new_driver_queue (cfg_of known 1 size) 0x5000000) };
+      reply = reply.Good;
+      known = with_driver_queue known 1 (new_driver_queue (cfg_of known 1 size) 0x5000000);
       raw = record { memory = put_at mem 0x5000000 (replicate QUEUE_AREAS 0); con = set_to size (bare a b c i); waiting = waiting; console = console };
       count = 12;
+      place = 0;
     }
 queue_run size mem waiting console known a b c i inside =
     let raw : RawState = record { memory = mem; con = bare a b c i; waiting = waiting; console = console } in
-    run_step (access.Zero 0x5000000 QUEUE_AREAS) (λ _ _. describe_queue known 1 size) raw 0 (only answer.Done (record raw { memory = put_at mem 0x5000000 (replicate QUEUE_AREAS 0) })) (rw (areas_fit mem inside) refl) ∙ refl
+    zero_step raw 0x5000000 QUEUE_AREAS (describe_queue known 1 size) 0 (areas_fit mem inside) ∙ refl
 
 as_bare : (raw : RawState) → raw.con.status ≡ record { offered = CONSOLE_FEATURES; accepted = 2 ^ 32; status = 11 } → raw.con.queues ≡ new_raw_queue ∷ new_raw_queue ∷ []
     → raw ≡ record {
@@ -86,10 +86,10 @@ cleared_length mem e = cleared_at mem QUEUE_AREAS e (lit≤ tt)
 pub queue_holds : (size : ℕ) (w : World) (raw : RawState) (known : DriverRecord) → IsTrue (is_queue_size size) → size % 2 ^ 16 ≡ size
     → Opening 0x0b (2 ^ 32) w raw known → LineHolds 6 (Operates (SetQueue Con 1 size) []) w raw known
 queue_holds size w raw known fits short h =
-    line_by_run 6 (SetQueue Con 1 size) w raw known _
-    (ap (λ (r : RawState). run_from (setq_program known 1 size) r 0) (as_bare raw h.device.raw_status h.queues.raw_queues)
-    ∙ queue_run size raw.memory raw.waiting raw.console known raw.con.device_features_select raw.con.driver_features_select raw.con.queue_select raw.con.interrupt_status h.device.memory) (record {
-      stands = (record {
+    line_told 6 (SetQueue Con 1 size) w raw known _
+    (ap (λ (r : RawState). tells (setq_program known 1 size) r 0) (as_bare raw h.device.raw_status h.queues.raw_queues)
+    ∙ queue_run size raw.memory raw.waiting raw.console known raw.con.device_features_select raw.con.driver_features_select raw.con.queue_select raw.con.interrupt_status h.device.memory) (
+      record {
         size = size;
         device = record {
           world_status = h.device.world_status;
@@ -122,10 +122,12 @@ queue_holds size w raw known fits short h =
           base = refl;
           part = record { available = refl; used = refl; ring_taken = refl; ring_used = refl; next_available = refl; next_used = refl; unreaped = refl };
         };
-      });
-      reply = refl;
-      few = lit≤ tt;
-    })
+      },
+      refl,
+      refl,
+      lit≤ tt,
+      refl,
+    )
 
 pub driver_ok_holds : (w : World) (raw : RawState) (known : DriverRecord) → Running 0x0b false Idle w raw known → LineHolds 7 (Operates (SetStatus Con step.DrvOk) []) w raw known
 driver_ok_holds w raw known h = (

@@ -1,5 +1,5 @@
 -- What a trace without events tells, one access at a time.
-use Rattle.std.proofs.Common.{◌≡◌, ℕ, ◌+◌, ◌≤◌, List, [], length, true, ap, arith}
+use Rattle.std.proofs.Common.{◌≡◌, ℕ, ◌+◌, ◌≤◌, List, [], length, replicate, true, ap, arith}
 use Rattle.std.specs.Prelude.{nat_le}
 use Rattle.std.proofs.lemmas.Bool.{cond-true}
 use Rattle.std.proofs.lemmas.Bool.Decides.{nat_tests}
@@ -7,7 +7,7 @@ use Rattle.guest_mem.specs.Memory.{part, put_at}
 use Rattle.vt_types.specs.declared.device.BusKind.TheVariants.{Mmio}
 use Rattle.vt_types.specs.declared.access.Answer.{Answer}
 use Rattle.vt_types.specs.declared.access.Answer.TheVariants as answer
-use Rattle.vt_types.specs.Access.{Put, Get}
+use Rattle.vt_types.specs.Access.{Put, Get, Zero}
 use Rattle.vt_types.specs.Program.{Program, Do}
 use Rattle.vt_types.specs.Reply.{ReplyValue}
 use Rattle.script_run.specs.Lowering.{DriverRecord, Ended}
@@ -49,3 +49,11 @@ get_step raw addr size rest count inside =
     let test : nat_le (addr + size) (length raw.memory) ≡ true = grind (arith, nat_tests) in
     ap (λ (r : Answer × List ℕ × List ℕ). tells (rest (on_memory raw r).0 (on_memory raw r).1) (on_memory raw r).2 (count + 1))
     (cond-true (nat_le (addr + size) (length raw.memory)) (answer.Got, part raw.memory addr size, raw.memory) (answer.Outside, [], raw.memory) test)
+
+-- a zeroing inside memory
+pub zero_step : (raw : RawState) (addr count : ℕ) (rest : Program Ended) (n : ℕ) → addr + count ≤ length raw.memory
+    → tells (Do (Zero addr count) (λ _ _. rest)) raw n ≡ tells rest (with_memory raw (put_at raw.memory addr (replicate count 0))) (n + 1)
+zero_step raw addr count rest n inside =
+    let test : nat_le (addr + count) (length raw.memory) ≡ true = grind (arith, nat_tests) in
+    ap (λ (r : Answer × List ℕ × List ℕ). tells rest (on_memory raw r).2 (n + 1))
+    (cond-true (nat_le (addr + count) (length raw.memory)) (answer.Done, [], put_at raw.memory addr (replicate count 0)) (answer.Outside, [], raw.memory) test)
