@@ -11,7 +11,7 @@ pub nothing_left : (old new : Option (List ℕ)) (room room2 : List ℕ) (n : �
     → old ≡ Some left → n ≡ 0 → 0 < length room → left ≡ []
 nothing_left None new room room2 n left h e zero some = absurd cc
 nothing_left (Some x) None room room2 n left h e zero some = absurd h
-nothing_left (Some x) (Some y) room room2 n left h e zero some = let same : x ≡ left = cc in sym same ∙ h.2 zero some
+nothing_left (Some x) (Some y) room room2 n left h e zero some = let same : x ≡ left = cc in sym same ∙ h.1 zero some
 
 -- what a read moves
 pub moved : (old new : Option (List ℕ)) (room room2 : List ℕ) (n : ℕ) (left : List ℕ) → Moves old new room room2 n

@@ -1,4 +1,4 @@
-use Rattle.std.specs.Prelude.{◌≡◌, ℕ, ◌≤◌, List, [], ◌∷◌, ◌++◌, length, Bool, Option, Some, None, Result, is_ok, slice_set, slice_get, OnErr}
+use Rattle.std.specs.Prelude.{◌≡◌, ℕ, ◌≤◌, List, [], ◌∷◌, ◌++◌, length, Bool, Option, Some, None, Result, is_ok, slice_set, slice_get, OnOk, OnErr}
 use Rattle.vt_outside.specs.declared.failed.Failed.{Failed}
 use Rattle.vt_outside.specs.Faults.{Rose}
 
@@ -17,11 +17,12 @@ AddsOutcome old None b = Unit {0}
 AddsOutcome None (Some new) b = ⊥
 AddsOutcome (Some old) (Some new) b = new ≡ old ++ b ∷ []
 
--- a call of a disk: what never changes stayed, a failure counts, and the outcome is told
+-- a call of a disk: what never changes stayed, a failure counts and an Ok doesn't, and the outcome is told
 pub record Called (old new : DiskView) (result : Result Unit Failed) : Type 0 where
   pub count : new.count ≡ old.count
   pub locked : new.locked ≡ old.locked
   pub later : old.faults ≤ new.faults
+  pub calm : OnOk result (new.faults ≡ old.faults)
   pub cause : OnErr result (Rose old.faults new.faults)
   pub outcomes : AddsOutcome old.outcomes new.outcomes (is_ok result)
 

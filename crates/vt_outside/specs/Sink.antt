@@ -13,11 +13,12 @@ Adds None (Some new) bytes = ⊥
 Adds (Some old) None bytes = ⊥
 Adds (Some old) (Some new) bytes = new ≡ old ++ bytes
 
--- a write that answered Ok(n): the first n bytes of the piece were added, at least one where there is one
+-- a write that answered Ok(n): the first n bytes of the piece were added, at least one where there is one, and no call
+-- failed
 pub record WriteOk (old new : SinkView) (bytes : List ℕ) (n : ℕ) : Type 0 where
   pub bound : n ≤ length bytes
   pub some : 0 < length bytes → 0 < n
-  pub later : old.faults ≤ new.faults
+  pub faults : new.faults ≡ old.faults
   pub adds : Adds old.written new.written (take n bytes)
 
 -- a write that failed: it counts, and nothing was added

@@ -8,7 +8,7 @@ use Rattle.script_run.proofs.output.send.Goals as goal
 pub loop-sent-preserved : goal.loop-sent-preserved
 loop-sent-preserved g c = record {
   bound = let b = (c.in-Ok.ensures).ok.bound in omega (arith, length-take {A = ℕ}, length-drop {A = ℕ}, b);
-  later = let b = (c.in-Ok.ensures).ok.later in omega (arith, b);
+  later = let b = (c.in-Ok.ensures).ok.faults in omega (arith, b);
   adds =
       let b = (c.in-Ok.ensures).ok.adds in
       let e : take (length c.args.bytes.now - c.loop-sent.sent) (drop c.loop-sent.sent c.args.bytes.now) ≡ drop c.loop-sent.sent c.args.bytes.now = grind (arith, common_steps) in
