@@ -6,22 +6,14 @@ use Rattle.vt_types.specs.declared.device.BusKind.TheVariants.{Mmio, PciIntx}
 use Rattle.vt_types.specs.declared.operation.Event.{Event}
 use Rattle.vt_types.specs.declared.operation.Event.TheVariants as event
 use Rattle.vt_types.specs.declared.operation.EventAt.{EventAt}
-use Rattle.vt_types.specs.declared.operation.Step.{Step}
-use Rattle.vt_types.specs.declared.operation.Step.TheVariants as step
 use Rattle.vt_types.specs.Operation.{Operation, PostedBuffer, Probe, Reset, Features, GetStatus, Accept, SetStatus, SetQueue, Post, Notify, Reap, Arm, Disarm, ReadConfig, WriteConfig, IrqQueues, IrqConfig}
 use Rattle.vt_types.specs.Reply.{ReplyValue}
 use Rattle.vt_types.specs.Reply as reply
+pub use Rattle.vt_types.specs.Status.{status_of_step}
 use Rattle.dev_status.specs.Status.{StatusState, EVENT_IDX, write_of, has_bits}
 use Rattle.dev_console.specs.Console.{with_input}
 use Rattle.abstract_devices.specs.World.{World, AbstractDevice, AbstractQueue, Buffer, UsedBuffer, Always, Never, First, device, with_device, queue, with_queue, offered, status_state}
 use Rattle.abstract_devices.specs.Serve.{serve}
-
--- what a driver writes for a step of the bring-up: the bits of this step and of those before it (VIRTIO 1.2, 3.1.1)
-abbrev pub status_of_step : Step → ℕ
-status_of_step step.Ack = 1
-status_of_step step.Driver = 3
-status_of_step step.FeatOk = 0x0b
-status_of_step step.DrvOk = 0x0f
 
 -- a world and a reply
 pub record Outcome : Type 0 where

@@ -47,23 +47,40 @@ pages_touched addr count = if count == 0 then 0 else (addr + count - 1) / 4096 -
 
 -- what an access may cost a port: pages of guest memory to make, or bytes to keep
 abbrev pub access_cost : AccessValue → ℕ
+access_cost (Load addr width) = 0
 access_cost (Store addr width value) = 1
-access_cost (CfgStore func off width value) = 1
 access_cost (Put addr bytes) = pages_touched addr (length bytes)
+access_cost (Get addr count) = 0
 access_cost (Zero addr count) = pages_touched addr count
 access_cost (Swap addr value) = pages_touched addr 8
+access_cost (CfgLoad func off width) = 0
+access_cost (CfgStore func off width value) = 1
+access_cost (Ssch id addr) = 0
 access_cost (Tsch id addr) = 2
 access_cost (Stsch id addr) = 2
+access_cost (Msch id addr) = 0
+access_cost (Csch id) = 0
 access_cost (TurnOf id) = 2
-access_cost _ = 0
+access_cost (Diag func id value cookie) = 0
+
+-- the most bytes of one put or get (our own)
+abbrev pub LONGEST_ACCESS : ℕ
+LONGEST_ACCESS = 8192
 
 -- what a line of a raw script can ask for
 abbrev pub IsWithinLimits : AccessValue → Type 0
 IsWithinLimits (Load addr width) = IsTrue (is_width width)
 IsWithinLimits (Store addr width value) = IsTrue (is_width width)
-IsWithinLimits (Put addr bytes) = (1 ≤ length bytes) × (length bytes ≤ 8192)
-IsWithinLimits (Get addr count) = (1 ≤ count) × (count ≤ 8192)
+IsWithinLimits (Put addr bytes) = (1 ≤ length bytes) × (length bytes ≤ LONGEST_ACCESS)
+IsWithinLimits (Get addr count) = (1 ≤ count) × (count ≤ LONGEST_ACCESS)
 IsWithinLimits (Zero addr count) = 1 ≤ count
+IsWithinLimits (Swap addr value) = Unit {0}
 IsWithinLimits (CfgLoad func off width) = (off ≤ 0xfff) × IsTrue (is_width width)
 IsWithinLimits (CfgStore func off width value) = (off ≤ 0xfff) × IsTrue (is_width width)
-IsWithinLimits _ = Unit {0}
+IsWithinLimits (Ssch id addr) = Unit {0}
+IsWithinLimits (Tsch id addr) = Unit {0}
+IsWithinLimits (Stsch id addr) = Unit {0}
+IsWithinLimits (Msch id addr) = Unit {0}
+IsWithinLimits (Csch id) = Unit {0}
+IsWithinLimits (TurnOf id) = Unit {0}
+IsWithinLimits (Diag func id value cookie) = Unit {0}

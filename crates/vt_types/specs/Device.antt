@@ -1,4 +1,4 @@
-use Rattle.std.specs.Prelude.{ℕ}
+use Rattle.std.specs.Prelude.{ℕ, ◌+◌, ◌*◌}
 use Rattle.vt_types.specs.declared.device.Dev.{Dev}
 use Rattle.vt_types.specs.declared.device.Dev.TheVariants.{Blk, Net, Con}
 
@@ -20,3 +20,23 @@ abbrev pub config_length : Dev → ℕ
 config_length Blk = 60
 config_length Net = 8
 config_length Con = 12
+
+-- the greatest size of a queue, in descriptors (our own: VIRTIO 1.2, 2.7, lets a queue have up to 32768)
+abbrev pub GREATEST_QUEUE : ℕ
+GREATEST_QUEUE = 256
+
+-- the bytes of a queue's block in guest memory (our own)
+abbrev pub BLOCK_LEN : ℕ
+BLOCK_LEN = 0x1000000
+
+-- the number of the block of a device's first queue: the blocks are those of the block device's queue, of the network
+-- device's two and of the console's two (our own)
+abbrev pub first_block : Dev → ℕ
+first_block Blk = 0
+first_block Net = 1
+first_block Con = 3
+
+-- the address of a queue's block in guest memory: blocks lie one after the other, and one length lies before the first
+-- (our own)
+abbrev pub queue_block : Dev → ℕ → ℕ
+queue_block dev queue = (first_block dev + queue + 1) * BLOCK_LEN

@@ -16,9 +16,13 @@ last_gap_from low (x ∷ rest) = last_gap_from x.gap rest
 abbrev pub last_gap : List EventAt → ℕ
 last_gap events = last_gap_from 0 events
 
--- a list of events: at most 128, and the gaps never fall
+-- the most events of one operation (our own)
+abbrev pub MOST_EVENTS : ℕ
+MOST_EVENTS = 128
+
+-- a list of events: not too many, and the gaps never fall
 pub record AreEvents (events : List EventAt) : Type 0 where
-  pub few : length events ≤ 128
+  pub few : length events ≤ MOST_EVENTS
   pub rise : RisesFrom 0 events
 
 -- what stands past the end of every list of events

@@ -1,7 +1,9 @@
 pub mod Access
 pub mod Device
 pub mod Events
+pub mod Features
 pub mod Operation
 pub mod Program
 pub mod Reply
+pub mod Status
 pub mod Tables

@@ -12,13 +12,23 @@ pub data Program (X : Type 0) : Type 0 where
 
 -- the bytes that came with an answer: after a get they are in the room
 abbrev pub got : Answer → List ℕ → List ℕ
+got (answer.Word x) room = []
+got answer.Done room = []
 got answer.Got room = room
-got _ room = []
+got answer.Outside room = []
+got (answer.Code c) room = []
+got (answer.Turned t) room = []
+got answer.NoSuch room = []
 
 -- bytes came with an answer
 abbrev pub is_got : Answer → Bool
+is_got (answer.Word x) = false
+is_got answer.Done = false
 is_got answer.Got = true
-is_got _ = false
+is_got answer.Outside = false
+is_got (answer.Code c) = false
+is_got (answer.Turned t) = false
+is_got answer.NoSuch = false
 
 -- the program, run over a port's step and marking, leads from one state of the port to this result and another state
 abbrev pub Gives : {P X : Type 0} → (P → AccessValue → Answer → List ℕ → List ℕ → P → Type 0) → (P → P → Type 0) → Program X → P → X → P → Type 0

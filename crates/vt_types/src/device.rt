@@ -1,7 +1,10 @@
 //! The devices and the buses.
 
-ghost use Rattle.std.specs.Prelude.{◌≡◌};
-ghost use Rattle.vt_types.specs.Device.{device_id, queue_count, config_length};
+ghost use Rattle.std.specs.Prelude.{◌≡◌, ◌<◌};
+ghost use Rattle.vt_types.specs.Device.{device_id, queue_count, config_length, first_block, queue_block};
+
+/// The bytes of a queue's block in guest memory (our own).
+const BLOCK_LEN: u32 = 0x100_0000;
 
 /// A device: block (VIRTIO 1.2, 5.2), network (5.1) or console (5.3).
 #[derive(Clone, Copy, Debug, PartialEq, Eq)]
@@ -43,6 +46,27 @@ impl Dev {
             Dev::Blk => 60,
             Dev::Net => 8,
             Dev::Con => 12,
+        }
+    }
+
+    /// The address of a queue's block in guest memory, a multiple of 0x1000000 from that number on (our own): the
+    /// blocks are those of the block device's queue, of the network device's two and of the console's two. The queue is
+    /// below `queues()`.
+    pub fn block(self, queue: u16) -> u32
+        requires { queue < queue_count self }
+        ensures { result ≡ queue_block self queue }
+    {
+        (self.first_block() + queue as u32 + 1) * BLOCK_LEN
+    }
+
+    /// The number of the block of the device's first queue.
+    fn first_block(self) -> u32
+        ensures { result ≡ first_block self }
+    {
+        match self {
+            Dev::Blk => 0,
+            Dev::Net => 1,
+            Dev::Con => 3,
         }
     }
 }

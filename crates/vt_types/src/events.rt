@@ -5,7 +5,10 @@ use crate::operation::{Event, EventAt};
 use std::alloc::{AllocError, Global};
 use std::marker::Model;
 
-/// Events in the order of their gaps: at most 128, and no gap is below the one before it.
+/// The most events of one operation (our own).
+pub const MOST_EVENTS: u32 = 128;
+
+/// Events in the order of their gaps: at most `MOST_EVENTS`, and no gap is below the one before it.
 #[derive(Drop)]
 pub struct Events {
     items: Vec<EventAt>,
@@ -36,10 +39,10 @@ impl Events {
         }
     }
 
-    /// Adds one event at the end: fewer than 128 are there, and the gap isn't below the last one. `Memory` leaves the
-    /// list unchanged.
+    /// Adds one event at the end: fewer than `MOST_EVENTS` are there, and the gap isn't below the last one. `Memory`
+    /// leaves the list unchanged.
     pub fn push(&mut self, alloc: Global, gap: u16, event: Event) -> Result<(), Memory>
-        requires few { length self.old < 128 }
+        requires few { length self.old < MOST_EVENTS }
         requires rise { last_gap self.old ≤ gap }
         ensures ok { OnOk result (self.new ≡ self.old ++ record { gap = gap; event = event } ∷ []) }
         ensures err { OnErr result (self.new ≡ self.old) }
@@ -49,7 +52,7 @@ impl Events {
         Ok(())
     }
 
-    /// How many events there are: at most 128, and their gaps never fall.
+    /// How many events there are: at most `MOST_EVENTS`, and their gaps never fall.
     pub fn len(&self) -> u32
         ensures length { result ≡ length self.now }
         ensures events { AreEvents self.now }

@@ -1,6 +1,7 @@
 //! Feature bits.
 
-ghost use Rattle.std.specs.Prelude.{⊤, [], ◌∷◌, codes};
+ghost use Rattle.std.specs.Prelude.{⊤, ◌≡◌, [], ◌∷◌, codes};
+ghost use Rattle.vt_types.specs.Features as feature;
 
 use bitflags::{Flag, Flags, bitflag_items};
 
@@ -49,4 +50,25 @@ impl Flags for Features {
     fn from_bits_retain(bits: u64) -> Features {
         Features(bits)
     }
+}
+
+impl Features {
+    /// Each bit stands where the standard has it (VIRTIO 1.2, 5.1.3, 5.2.3, 5.3.3 and 6). Does nothing.
+    pub fn bits_are_standard()
+        ensures indirect_desc { Features.INDIRECT_DESC.0 ≡ feature.INDIRECT_DESC }
+        ensures event_idx { Features.EVENT_IDX.0 ≡ feature.EVENT_IDX }
+        ensures version_1 { Features.VERSION_1.0 ≡ feature.VERSION_1 }
+        ensures ring_packed { Features.RING_PACKED.0 ≡ feature.RING_PACKED }
+        ensures blk_seg_max { Features.BLK_SEG_MAX.0 ≡ feature.BLK_SEG_MAX }
+        ensures blk_ro { Features.BLK_RO.0 ≡ feature.BLK_RO }
+        ensures blk_size { Features.BLK_SIZE.0 ≡ feature.BLK_SIZE }
+        ensures blk_flush { Features.BLK_FLUSH.0 ≡ feature.BLK_FLUSH }
+        ensures blk_config_wce { Features.BLK_CONFIG_WCE.0 ≡ feature.BLK_CONFIG_WCE }
+        ensures blk_discard { Features.BLK_DISCARD.0 ≡ feature.BLK_DISCARD }
+        ensures blk_write_zeroes { Features.BLK_WRITE_ZEROES.0 ≡ feature.BLK_WRITE_ZEROES }
+        ensures net_mac { Features.NET_MAC.0 ≡ feature.NET_MAC }
+        ensures net_status { Features.NET_STATUS.0 ≡ feature.NET_STATUS }
+        ensures con_size { Features.CON_SIZE.0 ≡ feature.CON_SIZE }
+        ensures con_emerg_write { Features.CON_EMERG_WRITE.0 ≡ feature.CON_EMERG_WRITE }
+    {}
 }

@@ -1,7 +1,11 @@
 //! What a driver is asked to do, and what happens outside.
 
+ghost use Rattle.std.specs.Prelude.{◌≡◌};
+ghost use Rattle.vt_types.specs.Status.{status_of_step};
+
 use crate::bytes::Bytes;
 use crate::device::Dev;
+use crate::status::Status;
 use arrayvec::ArrayVec;
 
 /// What happens outside the driver: a device serves a queue, or the world does something.
@@ -52,6 +56,23 @@ pub enum Step {
     Driver,
     FeatOk,
     DrvOk,
+}
+
+impl Step {
+    /// What the driver writes to the status: the bit of this step and those of the steps before it.
+    pub fn status(self) -> u8
+        ensures { result ≡ status_of_step self }
+    {
+        const ACKNOWLEDGED: u8 = Status::ACKNOWLEDGE.0;
+        const DRIVEN: u8 = ACKNOWLEDGED | Status::DRIVER.0;
+        const AGREED: u8 = DRIVEN | Status::FEATURES_OK.0;
+        match self {
+            Step::Ack => ACKNOWLEDGED,
+            Step::Driver => DRIVEN,
+            Step::FeatOk => AGREED,
+            Step::DrvOk => AGREED | Status::DRIVER_OK.0,
+        }
+    }
 }
 
 /// A buffer to post. `cuts` has the lengths of all pieces, in bytes; the first `nread` are readable by the device, and

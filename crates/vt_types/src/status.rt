@@ -1,6 +1,7 @@
 //! Device status.
 
-ghost use Rattle.std.specs.Prelude.{⊤, [], ◌∷◌, codes};
+ghost use Rattle.std.specs.Prelude.{⊤, ◌≡◌, [], ◌∷◌, codes};
+ghost use Rattle.vt_types.specs.Status as status;
 
 use bitflags::{Flag, Flags, bitflag_items};
 
@@ -39,4 +40,16 @@ impl Flags for Status {
     fn from_bits_retain(bits: u8) -> Status {
         Status(bits)
     }
+}
+
+impl Status {
+    /// Each bit stands where the standard has it (VIRTIO 1.2, 2.1). Does nothing.
+    pub fn bits_are_standard()
+        ensures acknowledge { Status.ACKNOWLEDGE.0 ≡ status.ACKNOWLEDGE }
+        ensures driver { Status.DRIVER.0 ≡ status.DRIVER }
+        ensures driver_ok { Status.DRIVER_OK.0 ≡ status.DRIVER_OK }
+        ensures features_ok { Status.FEATURES_OK.0 ≡ status.FEATURES_OK }
+        ensures device_needs_reset { Status.DEVICE_NEEDS_RESET.0 ≡ status.DEVICE_NEEDS_RESET }
+        ensures failed { Status.FAILED.0 ≡ status.FAILED }
+    {}
 }

@@ -4,7 +4,10 @@ ghost use Rattle.std.specs.Prelude.{◌≡◌, ◌+◌, List};
 ghost use Rattle.vt_types.specs.declared.access.Answer.TheVariants.{Word};
 ghost use Rattle.vt_types.specs.Access.{Load};
 
-use crate::{Access, Answer, Bytes, Dev, Event, Events, Features, Port, Room, Status};
+use crate::{
+    Access, Answer, Bytes, Dev, Event, Events, Features, Port, Room, Status, Step,
+    limits_are_defined,
+};
 use bitflags::Flags;
 use std::test::Fail;
 
@@ -62,15 +65,17 @@ fn a_port_at_a_type(rt: HostRuntime) {
 #[test]
 fn devices(rt: HostRuntime) {
     let rows = [
-        (Dev::Blk, 2, 1, 60),
-        (Dev::Net, 1, 2, 8),
-        (Dev::Con, 3, 2, 12),
+        (Dev::Blk, 2, 1, 60, 0x100_0000),
+        (Dev::Net, 1, 2, 8, 0x200_0000),
+        (Dev::Con, 3, 2, 12, 0x400_0000),
     ];
-    for (dev, id, queues, config_len) in rows {
+    for (dev, id, queues, config_len, block) in rows {
         assert_eq!(rt; dev.id(), id);
         assert_eq!(rt; dev.queues(), queues);
         assert_eq!(rt; dev.config_len(), config_len);
+        assert_eq!(rt; dev.block(0), block);
     }
+    assert_eq!(rt; Dev::Con.block(1), 0x500_0000);
 }
 
 #[test]
@@ -108,6 +113,10 @@ fn events_are_kept(rt: HostRuntime) -> Result<(), Fail> {
 fn flags_by_name(rt: HostRuntime) {
     let status = Status::ACKNOWLEDGE | Status::DRIVER | Status::FEATURES_OK;
     assert_eq!(rt; status.0, 11);
+    assert_eq!(rt; Step::FeatOk.status(), 11);
+    Status::bits_are_standard();
+    Features::bits_are_standard();
+    limits_are_defined();
     assert!(rt; !status.contains(Status::DRIVER_OK));
     assert_eq!(rt; Status::DEVICE_NEEDS_RESET.0, 64);
     assert_eq!(rt; Status::FAILED.0, 128);
