@@ -1,5 +1,5 @@
 use Rattle.std.specs.Prelude.{◌≡◌, ℕ, ◌+◌, ◌/◌, ◌%◌, ◌^◌, ◌<◌, List, IfSome, Option, Some, None, slice_get, slice_set}
-use Rattle.vt_types.specs.declared.TheConstants.{MAX_QUEUE}
+use Rattle.vt_types.specs.Device.{GREATEST_QUEUE}
 use Rattle.vt_types.specs.declared.access.Answer.{Answer}
 use Rattle.vt_types.specs.Access.{AccessValue, Load, Store, Zero}
 use Rattle.vt_types.specs.Program.{Program, Gives}
@@ -43,7 +43,7 @@ abbrev pub queue_if : Option ℕ → DriverQueue → Option DriverQueue
 queue_if None q = None
 queue_if (Some size) q = Some q
 
--- what is known of the end of a queue: it may have MAX_QUEUE descriptors, and where the queue is set it has this size
+-- what is known of the end of a queue: it may have GREATEST_QUEUE descriptors, and where the queue is set it has this size
 pub record IsEnd (held : Option ℕ) (q : DriverQueue) (most : ℕ) : Type 0 where
-  pub greatest : most ≡ MAX_QUEUE
+  pub greatest : most ≡ GREATEST_QUEUE
   pub size : IfSome held (λ n. (q.cfg.size ≡ n) × (0 < n))

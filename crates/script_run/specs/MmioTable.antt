@@ -4,7 +4,7 @@ use Rattle.vt_types.specs.declared.access.Answer.{Answer}
 use Rattle.vt_types.specs.declared.access.Answer.TheVariants as answer
 use Rattle.vt_types.specs.Access.{AccessValue}
 use Rattle.vt_types.specs.Access as access
-use Rattle.vt_types.specs.declared.TheConstants.{MAX_QUEUE}
+use Rattle.vt_types.specs.Device.{GREATEST_QUEUE}
 use Rattle.memory_port.specs.MemoryTable.{memory_table}
 use Rattle.vq_common.specs.Queue.{DeviceQueue, new_device_queue, is_ring_size}
 use Rattle.dev_status.specs.Status.{INDIRECT_DESC, EVENT_IDX, write_of, accept_of, feature_word, has_bits}
@@ -59,7 +59,7 @@ bit_of b = if b then 1 else 0
 -- the greatest size of the selected queue; 0 where there is no such queue
 abbrev pub queue_number_max : Option RawQueue → ℕ
 queue_number_max None = 0
-queue_number_max (Some q) = MAX_QUEUE
+queue_number_max (Some q) = GREATEST_QUEUE
 
 -- and whether it is set
 abbrev pub queue_ready : Option RawQueue → ℕ
@@ -101,7 +101,7 @@ unless_ready q changed = if is_some q.ring then q else changed
 
 -- the sizes that QueueNum may have: the powers of two up to QueueNumMax (VIRTIO 1.2, 2.7 and 4.2.2)
 abbrev pub is_queue_size : ℕ → Bool
-is_queue_size n = is_ring_size n && nat_le n MAX_QUEUE
+is_queue_size n = is_ring_size n && nat_le n GREATEST_QUEUE
 
 -- the ring that the registers of a queue describe; the two features are those that are accepted now
 abbrev pub ring_of : ℕ → RawQueue → DeviceQueue
