@@ -21,7 +21,7 @@ use Rattle.vq_common.specs.Queue.{DriverQueue, ReapedValue, new_driver_queue, po
 use Rattle.vq_split_drv.specs.Post.{split_post_accesses, split_posted}
 use Rattle.vq_split_drv.specs.Reap.{split_reap_program}
 use Rattle.dev_status.specs.Status.{INDIRECT_DESC, EVENT_IDX, has_bits}
-use Rattle.abstract_devices.specs.Operate.{status_of_step}
+use Rattle.vt_types.specs.Status.{status_of_step}
 use Rattle.script_run.specs.MmioTable.{CONSOLE_PAGE, is_queue_size}
 
 -- what a driver keeps of its device: probed, reset since, the status that it last read back, the accepted features, and

@@ -7,7 +7,6 @@ ghost use Rattle.vt_types.specs.Reply.{reply_value, Good};
 ghost use Rattle.vq_common.specs.Buffer.{IsPostable};
 ghost use Rattle.vq_common.specs.Queue.{new_driver_queue};
 ghost use Rattle.vq_split_drv.specs.Reap.{split_reap_program};
-ghost use Rattle.abstract_devices.specs.Operate.{status_of_step};
 ghost use Rattle.script_run.specs.MmioTable.{is_queue_size};
 ghost use Rattle.script_run.specs.Lowering.{IsRunnable, accept_program, cfg_of, mmio_program, new_record, notify_program, queue_program, post_queue, probe_program, queue_block, end_of_reap, reset_program, setq_program, status_program, with_driver_queue};
 
@@ -49,18 +48,6 @@ impl Model for MmioDriver {
     ghost Value = { DriverRecord };
 
     ghost view = { λ d. record { probed = d.probed; reset_since = d.reset_since; status = d.status; accepted = d.accepted.0; queues = d.receive ∷ d.transmit ∷ [] } };
-}
-
-/// What is written to the status register for a step of the initialization (VIRTIO 1.2, 3.1.1).
-fn status_bits(step: Step) -> u32
-    ensures { result ≡ status_of_step step }
-{
-    match step {
-        Step::Ack => 1,
-        Step::Driver => 3,
-        Step::FeatOk => 0x0b,
-        Step::DrvOk => 0x0f,
-    }
 }
 
 impl MmioDriver {
@@ -113,7 +100,7 @@ impl MmioDriver {
         requires { 4096 ≤ P.credit port.old }
         ensures { Gives P.step P.marking (status_program self.old step) port.old (record { reply = reply_value result room.new.items; known = self.new }) port.new }
     {
-        store(port, STATUS, status_bits(step), room);
+        store(port, STATUS, u32::from(step.status()), room);
         port.mark();
         let status = (load(port, STATUS, room) % 256) as u8;
         self.status = status;
