@@ -12,6 +12,7 @@ pub mod LineStep
 pub mod NotifyRound
 pub mod OpeningLaw
 pub mod OperationLaw
+pub mod OutcomeLaws
 pub mod PostProgram
 pub mod PostRound
 pub mod PostedLaw

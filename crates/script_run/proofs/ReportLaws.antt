@@ -12,24 +12,24 @@ use Rattle.script_run.specs.Trace.{trace_of}
 use Rattle.script_run.proofs.DiskLaws.{happen_disk, placed_disk}
 
 -- the status of a report is that with which its script ends
-pub report_status : (script : Script) (k : ℕ) (w : World) (raw : RawState) (known : DriverRecord) → (report_from Mmio script k w raw known).status ≡ status_at_end script
-report_status Ends k w raw known = refl
-report_status BadLine k w raw known = refl
-report_status TooLong k w raw known = refl
-report_status (Line (Happens e) rest) k w raw known = report_status rest (k + 1) (happen w e) (raw_event raw e) known
-report_status (Line (Operates op events) rest) k w raw known =
-    let t = trace_of Mmio raw known op events in report_status rest (k + 1) (placed_line Mmio w op events t.place).world t.raw t.known
+pub report_status : (script : Script) (k : ℕ) (w : World) (raw : RawState) (known : DriverRecord) (outcomes : List Bool) → (report_from Mmio script k w raw known outcomes).status ≡ status_at_end script
+report_status Ends k w raw known outcomes = refl
+report_status BadLine k w raw known outcomes = refl
+report_status TooLong k w raw known outcomes = refl
+report_status (Line (Happens e) rest) k w raw known outcomes = report_status rest (k + 1) (happen w e) (raw_event raw e) known outcomes
+report_status (Line (Operates op events) rest) k w raw known outcomes =
+    let t = trace_of Mmio raw known op events in report_status rest (k + 1) (placed_line Mmio w op events t.place).world t.raw t.known outcomes
 
 -- the image of a report is that of the disk
-pub report_image : (script : Script) (k : ℕ) (w : World) (raw : RawState) (known : DriverRecord) → (report_from Mmio script k w raw known).image ≡ w.disk.sectors
-report_image Ends k w raw known = refl
-report_image BadLine k w raw known = refl
-report_image TooLong k w raw known = refl
-report_image (Line (Happens e) rest) k w raw known =
-    report_image rest (k + 1) (happen w e) (raw_event raw e) known ∙ ap (λ (d : AbstractDisk). d.sectors) (happen_disk w e)
-report_image (Line (Operates op events) rest) k w raw known =
+pub report_image : (script : Script) (k : ℕ) (w : World) (raw : RawState) (known : DriverRecord) (outcomes : List Bool) → (report_from Mmio script k w raw known outcomes).image ≡ w.disk.sectors
+report_image Ends k w raw known outcomes = refl
+report_image BadLine k w raw known outcomes = refl
+report_image TooLong k w raw known outcomes = refl
+report_image (Line (Happens e) rest) k w raw known outcomes =
+    report_image rest (k + 1) (happen w e) (raw_event raw e) known outcomes ∙ ap (λ (d : AbstractDisk). d.sectors) (happen_disk w e)
+report_image (Line (Operates op events) rest) k w raw known outcomes =
     let t = trace_of Mmio raw known op events in
-    report_image rest (k + 1) (placed_line Mmio w op events t.place).world t.raw t.known ∙ ap (λ (d : AbstractDisk). d.sectors) (placed_disk Mmio w op events t.place)
+    report_image rest (k + 1) (placed_line Mmio w op events t.place).world t.raw t.known outcomes ∙ ap (λ (d : AbstractDisk). d.sectors) (placed_disk Mmio w op events t.place)
 
 -- a script ends with the input, at a bad line or with too many bytes
 pub status_cases : (script : Script) → (status_at_end script ≡ 0) ⊎ ((status_at_end script ≡ 3) ⊎ (status_at_end script ≡ 7))

@@ -17,24 +17,25 @@ use Rattle.script_run.proofs.LineLaw.{line_holds, stands_start}
 use Rattle.script_run.proofs.LineStep.{steps}
 use Rattle.script_run.proofs.Stands.{Stands, Opening, Running, Phase, Idle, Posted, Used}
 
--- with a disk's world beside the machine: where the run of a whole script stands, what was sent so far, and what is left
-pub record Reaches (disk : AbstractDisk) (whole rest : Script) (sent : List ℕ) (place number : ℕ) (raw : RawState) (known : DriverRecord) : Type 0 where
+-- with a disk's world beside the machine, and the outcomes of its readings: where the run of a whole script stands, what
+-- was sent so far, and what is left
+pub record Reaches (disk : AbstractDisk) (outcomes : List Bool) (whole rest : Script) (sent : List ℕ) (place number : ℕ) (raw : RawState) (known : DriverRecord) : Type 0 where
   pub world : World
   pub stands : Stands world raw known place
   pub disk_is : world.disk ≡ disk
-  pub report : report_from Mmio whole 0 (new_world disk) new_raw_state new_record ≡ before sent (report_from Mmio rest number world raw known)
+  pub report : report_from Mmio whole 0 (new_world disk) new_raw_state new_record outcomes ≡ before sent (report_from Mmio rest number world raw known outcomes)
 
-pub reaches_start : (disk : AbstractDisk) (script : Script) → Reaches disk script script [] 0 0 new_raw_state new_record
-reaches_start disk script = record { world = new_world disk; stands = stands_start disk; disk_is = refl; report = refl }
+pub reaches_start : (disk : AbstractDisk) (outcomes : List Bool) (script : Script) → Reaches disk outcomes script script [] 0 0 new_raw_state new_record
+reaches_start disk outcomes script = record { world = new_world disk; stands = stands_start disk; disk_is = refl; report = refl }
 
 before_before : (xs ys : List ℕ) (r : Report) → before xs (before ys r) ≡ before (xs ++ ys) r
 before_before xs ys r = rw (append_assoc xs ys r.text) refl
 
 -- one line more
-pub reaches_next : (disk : AbstractDisk) (whole rest after : Script) (sent added bytes : List ℕ) (place number : ℕ) (line : ScriptLine) (raw raw2 : RawState) (known known2 : DriverRecord)
+pub reaches_next : (disk : AbstractDisk) (outcomes : List Bool) (whole rest after : Script) (sent added bytes : List ℕ) (place number : ℕ) (line : ScriptLine) (raw raw2 : RawState) (known known2 : DriverRecord)
     → rest ≡ and_rest (line_at place bytes) after → line_at place bytes ≡ Some line → RunsLine (number + 1) line raw known raw2 known2 added
-    → Reaches disk whole rest sent place number raw known → Reaches disk whole after (sent ++ added) (next_place place) (number + 1) raw2 known2
-reaches_next disk whole rest after sent added bytes place number line raw raw2 known known2 is parsed ran r =
+    → Reaches disk outcomes whole rest sent place number raw known → Reaches disk outcomes whole after (sent ++ added) (next_place place) (number + 1) raw2 known2
+reaches_next disk outcomes whole rest after sent added bytes place number line raw raw2 known known2 is parsed ran r =
     let s = steps (number + 1) place line r.world raw known raw2 known2 added (line_holds place bytes line r.world raw known r.stands parsed) ran in
     let begins : rest ≡ Line line after = is ∙ ap (λ (o : Option ScriptLine). and_rest o after) parsed in
     record {
@@ -42,14 +43,14 @@ reaches_next disk whole rest after sent added bytes place number line raw raw2 k
       stands = s.stands;
       disk_is = s.disk ∙ r.disk_is;
       report =
-          r.report ∙ ap (λ (x : Script). before sent (report_from Mmio x number r.world raw known)) begins
-          ∙ ap (before sent) (s.report (λ w2 raw3 known3. report_from Mmio after (number + 1) w2 raw3 known3))
-          ∙ before_before sent added (report_from Mmio after (number + 1) s.world raw2 known2);
+          r.report ∙ ap (λ (x : Script). before sent (report_from Mmio x number r.world raw known outcomes)) begins
+          ∙ ap (before sent) (s.report (λ w2 raw3 known3. report_from Mmio after (number + 1) w2 raw3 known3 outcomes))
+          ∙ before_before sent added (report_from Mmio after (number + 1) s.world raw2 known2 outcomes);
     }
 
-pub reaches_start_at : (disk : AbstractDisk) (script : Script) (raw : RawState) (known : DriverRecord) → raw ≡ new_raw_state → known ≡ new_record
-    → Reaches disk script script [] 0 0 raw known
-reaches_start_at disk script raw known e f = rw (e, f) (reaches_start disk script)
+pub reaches_start_at : (disk : AbstractDisk) (outcomes : List Bool) (script : Script) (raw : RawState) (known : DriverRecord) → raw ≡ new_raw_state → known ≡ new_record
+    → Reaches disk outcomes script script [] 0 0 raw known
+reaches_start_at disk outcomes script raw known e f = rw (e, f) (reaches_start disk outcomes script)
 
 -- what the end parts need of the two halves, wherever they stand
 pub record Shown (w : World) (raw : RawState) : Type 0 where
@@ -83,11 +84,11 @@ shown place w raw known =
     (λ h. absurd h))))))))))))
 
 -- the lines ended with the input
-pub done_at_end : (disk : AbstractDisk) (whole rest : Script) (sent : List ℕ) (place number : ℕ) (raw : RawState) (known : DriverRecord) → rest ≡ Ends
-    → Reaches disk whole rest sent place number raw known → LinesDone (report_from Mmio whole 0 (new_world disk) new_raw_state new_record) (Ok 0) sent raw.console disk
-done_at_end disk whole rest sent place number raw known is r =
+pub done_at_end : (disk : AbstractDisk) (outcomes : List Bool) (whole rest : Script) (sent : List ℕ) (place number : ℕ) (raw : RawState) (known : DriverRecord) → rest ≡ Ends
+    → Reaches disk outcomes whole rest sent place number raw known → LinesDone (report_from Mmio whole 0 (new_world disk) new_raw_state new_record outcomes) (Ok 0) sent raw.console disk outcomes
+done_at_end disk outcomes whole rest sent place number raw known is r =
     let h = shown place r.world raw known r.stands in
-    r.report ∙ ap (λ (x : Script). before sent (report_from Mmio x number r.world raw known)) is ∙ rw (h.sent, h.console, r.disk_is) refl
+    r.report ∙ ap (λ (x : Script). before sent (report_from Mmio x number r.world raw known outcomes)) is ∙ rw (h.sent, h.console, r.disk_is) refl
 
 -- a report that ends with a text
 pub record EndsWith (r : Report) (sent text : List ℕ) (status : ℕ) : Type 0 where
@@ -95,37 +96,37 @@ pub record EndsWith (r : Report) (sent text : List ℕ) (status : ℕ) : Type 0 
   pub status_is : r.status ≡ status
 
 -- the lines ended with too many bytes, or at a line that is not in the grammar
-pub ends_too_long : (disk : AbstractDisk) (whole rest : Script) (sent : List ℕ) (place number : ℕ) (raw : RawState) (known : DriverRecord) → rest ≡ TooLong
-    → Reaches disk whole rest sent place number raw known → EndsWith (report_from Mmio whole 0 (new_world disk) new_raw_state new_record) sent (codes "too long\n") 7
-ends_too_long disk whole rest sent place number raw known is r =
-    let e = r.report ∙ ap (λ (x : Script). before sent (report_from Mmio x number r.world raw known)) is in
+pub ends_too_long : (disk : AbstractDisk) (outcomes : List Bool) (whole rest : Script) (sent : List ℕ) (place number : ℕ) (raw : RawState) (known : DriverRecord) → rest ≡ TooLong
+    → Reaches disk outcomes whole rest sent place number raw known → EndsWith (report_from Mmio whole 0 (new_world disk) new_raw_state new_record outcomes) sent (codes "too long\n") 7
+ends_too_long disk outcomes whole rest sent place number raw known is r =
+    let e = r.report ∙ ap (λ (x : Script). before sent (report_from Mmio x number r.world raw known outcomes)) is in
     record { text_is = ap (λ (x : Report). x.text) e; status_is = ap (λ (x : Report). x.status) e }
 
-pub ends_bad : (disk : AbstractDisk) (whole rest after : Script) (sent bytes : List ℕ) (place number : ℕ) (raw : RawState) (known : DriverRecord) → rest ≡ and_rest (line_at place bytes) after
-    → line_at place bytes ≡ None → Reaches disk whole rest sent place number raw known
-    → EndsWith (report_from Mmio whole 0 (new_world disk) new_raw_state new_record) sent (codes "fault " ++ decimal (number + 1) ++ codes "\n") 3
-ends_bad disk whole rest after sent bytes place number raw known is bad r =
+pub ends_bad : (disk : AbstractDisk) (outcomes : List Bool) (whole rest after : Script) (sent bytes : List ℕ) (place number : ℕ) (raw : RawState) (known : DriverRecord) → rest ≡ and_rest (line_at place bytes) after
+    → line_at place bytes ≡ None → Reaches disk outcomes whole rest sent place number raw known
+    → EndsWith (report_from Mmio whole 0 (new_world disk) new_raw_state new_record outcomes) sent (codes "fault " ++ decimal (number + 1) ++ codes "\n") 3
+ends_bad disk outcomes whole rest after sent bytes place number raw known is bad r =
     let begins : rest ≡ BadLine = is ∙ ap (λ (o : Option ScriptLine). and_rest o after) bad in
-    let e = r.report ∙ ap (λ (x : Script). before sent (report_from Mmio x number r.world raw known)) begins in
+    let e = r.report ∙ ap (λ (x : Script). before sent (report_from Mmio x number r.world raw known outcomes)) begins in
     record { text_is = ap (λ (x : Report). x.text) e; status_is = ap (λ (x : Report). x.status) e }
 
 -- what was sent so far is the front of the report
-pub front : (disk : AbstractDisk) (whole rest : Script) (sent : List ℕ) (place number : ℕ) (raw : RawState) (known : DriverRecord)
-    → Reaches disk whole rest sent place number raw known → IsPrefixOf sent (report_from Mmio whole 0 (new_world disk) new_raw_state new_record).text
-front disk whole rest sent place number raw known r =
-    ((report_from Mmio rest number r.world raw known).text, sym (ap (λ (x : Report). x.text) r.report))
+pub front : (disk : AbstractDisk) (outcomes : List Bool) (whole rest : Script) (sent : List ℕ) (place number : ℕ) (raw : RawState) (known : DriverRecord)
+    → Reaches disk outcomes whole rest sent place number raw known → IsPrefixOf sent (report_from Mmio whole 0 (new_world disk) new_raw_state new_record outcomes).text
+front disk outcomes whole rest sent place number raw known r =
+    ((report_from Mmio rest number r.world raw known outcomes).text, sym (ap (λ (x : Report). x.text) r.report))
 
 -- a last text was sent: the report is all sent, or a part of it is
-pub done_ending : (r : Report) (result : Result ℕ Stop) (sent last text console : List ℕ) (status : ℕ) (disk : AbstractDisk) → (status == 0) ≡ false → EndsWith r sent text status
-    → EndingPart result last text status → LinesDone r result (sent ++ last) console disk
-done_ending r (Ok answer) sent last text console status disk other ends (all, same) = rw (same, other, all) (ends.text_is, ends.status_is)
-done_ending r (Err e) sent last text console status disk other ends (rest, e2) =
+pub done_ending : (r : Report) (result : Result ℕ Stop) (sent last text console : List ℕ) (status : ℕ) (disk : AbstractDisk) (outcomes : List Bool) → (status == 0) ≡ false → EndsWith r sent text status
+    → EndingPart result last text status → LinesDone r result (sent ++ last) console disk outcomes
+done_ending r (Ok answer) sent last text console status disk outcomes other ends (all, same) = rw (same, other, all) (ends.text_is, ends.status_is)
+done_ending r (Err e) sent last text console status disk outcomes other ends (rest, e2) =
     (rest, append_assoc sent last rest ∙ ap (λ (z : List ℕ). sent ++ z) e2 ∙ sym ends.text_is)
 
 -- a line's text was sent in part
-pub done_in_part : (r : Report) (stop : Stop) (sent last whole console : List ℕ) (disk : AbstractDisk) → IsPrefixOf last whole → IsPrefixOf (sent ++ whole) r.text
-    → LinesDone r (Err stop) (sent ++ last) console disk
-done_in_part r stop sent last whole console disk (rest, e) (more, f) =
+pub done_in_part : (r : Report) (stop : Stop) (sent last whole console : List ℕ) (disk : AbstractDisk) (outcomes : List Bool) → IsPrefixOf last whole → IsPrefixOf (sent ++ whole) r.text
+    → LinesDone r (Err stop) (sent ++ last) console disk outcomes
+done_in_part r stop sent last whole console disk outcomes (rest, e) (more, f) =
     (rest ++ more, append_assoc sent last (rest ++ more) ∙ ap (λ (z : List ℕ). sent ++ z) (sym (append_assoc last rest more)) ∙ ap (λ (z : List ℕ). sent ++ (z ++ more)) e ∙ sym (append_assoc sent whole more) ∙ f)
 
 -- a place of the pattern is at most the last one

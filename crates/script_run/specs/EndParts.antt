@@ -1,4 +1,4 @@
-use Rattle.std.specs.Prelude.{ℕ, List, ◌++◌, take, drop, codes}
+use Rattle.std.specs.Prelude.{ℕ, List, ◌++◌, take, drop, Bool, codes}
 use Rattle.script_run.specs.Report.{hex, sector_lines}
 
 -- the end parts in the pieces in which they are sent
@@ -7,10 +7,10 @@ use Rattle.script_run.specs.Report.{hex, sector_lines}
 abbrev pub console_text : List ℕ → List ℕ
 console_text console = codes "frames 0\nconsole " ++ hex console ++ codes "\n"
 
--- what an image has for its sector n
-abbrev pub line_of_sector : ℕ → List (List ℕ) → List ℕ
-line_of_sector n image = sector_lines n (take 1 (drop n image))
+-- what an image has for its sector n, where the reading of it takes the first of some outcomes
+abbrev pub line_of_sector : ℕ → List (List ℕ) → List Bool → List ℕ
+line_of_sector n image outcomes = sector_lines n (take 1 (drop n image)) outcomes
 
 -- and for those below n
-abbrev pub lines_below : ℕ → List (List ℕ) → List ℕ
-lines_below n image = sector_lines 0 (take n image)
+abbrev pub lines_below : ℕ → List (List ℕ) → List Bool → List ℕ
+lines_below n image outcomes = sector_lines 0 (take n image) outcomes

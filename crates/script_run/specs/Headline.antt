@@ -1,4 +1,4 @@
-use Rattle.std.specs.Prelude.{◌≡◌, ℕ, ◌+◌, ◌&&◌, ◌⊎◌, List, [], ◌∷◌, Option, Some, None, codes, if◌then◌else◌}
+use Rattle.std.specs.Prelude.{◌≡◌, ℕ, ◌+◌, ◌&&◌, ◌⊎◌, List, [], ◌∷◌, length, Bool, Option, Some, None, codes, if◌then◌else◌}
 use Rattle.std.specs.Str.{bytes_eq}
 use Rattle.vt_types.specs.declared.device.BusKind.{BusKind}
 use Rattle.vt_types.specs.declared.device.BusKind.TheVariants.{Mmio}
@@ -7,10 +7,9 @@ use Rattle.vt_outside.specs.Source.{SourceView}
 use Rattle.vt_outside.specs.Sink.{SinkView, Adds}
 use Rattle.vt_outside.specs.Text.{IsPrefixOf}
 use Rattle.vt_outside.specs.Disk.{DiskView}
-use Rattle.vt_outside.specs.Watch.{Shows}
 use Rattle.abstract_devices.specs.World.{AbstractDisk}
+use Rattle.script_run.specs.DiskCalls.{SameDisk, AddsOutcomes, AreOutcomes, AreCallsOf}
 use Rattle.script_run.specs.Input.{TakesAtMost}
-use Rattle.script_run.specs.Output.{SameDisk}
 use Rattle.script_run.specs.Report.{report_of}
 use Rattle.script_run.specs.Script.{script_of, status_at_end, MOST_BYTES}
 
@@ -39,12 +38,19 @@ pub record AnswersScript (bus : BusKind) (s s2 : SourceView) (k k2 : SinkView) (
   pub ends : (input : List ℕ) → s.left ≡ Some input → Stopped status ⊎ (status ≡ status_at_end (script_of input))
   -- with 0 the input was read to its end
   pub reads : (input : List ℕ) → s.left ≡ Some input → status ≡ 0 → s2.left ≡ Some []
+  -- the disk's calls have these outcomes, which are added to those that it tells
+  pub outcomes : List Bool
+  pub tells : AddsOutcomes d.outcomes d2.outcomes outcomes
+  -- with 0 each sector was read once, with 3, 4 and 7 none was, and nothing else was asked of the disk
+  pub calls : AreCallsOf status d.count (length outcomes)
   -- a script that stops at a bad line or is too long: what is written is the report, whatever the disk is
-  pub stops : (input : List ℕ) (disk : AbstractDisk) → s.left ≡ Some input → (status_at_end (script_of input) ≡ 0 → ⊥) → Written status text (report_of bus input disk).text
-  -- the bus headline: what is written is the report of the abstract devices, the status is the report's, and so is the
-  -- image of the disk that comes back
-  pub report : (input : List ℕ) (image : List (List ℕ)) → s.left ≡ Some input → d.image ≡ Some image → (Rose d.faults d2.faults → ⊥)
-      → let r = report_of bus input (record { sectors = image; read_only = d.locked }) in Written status text r.text × (Stopped status ⊎ (status ≡ r.status)) × (d2.image ≡ Some r.image)
+  pub stops : (input : List ℕ) (disk : AbstractDisk) (readings : List Bool) → s.left ≡ Some input → (status_at_end (script_of input) ≡ 0 → ⊥)
+      → Written status text (report_of bus input disk readings).text
+  -- the bus headline: what is written is the report of the abstract devices, whichever sectors could be read; the status is
+  -- the report's, and so is the image of the disk that comes back
+  pub report : (input : List ℕ) (image : List (List ℕ)) (readings : List Bool) → s.left ≡ Some input → d.image ≡ Some image → AreOutcomes d d2 readings
+      → let r = report_of bus input (record { sectors = image; read_only = d.locked }) readings in
+      Written status text r.text × (Stopped status ⊎ (status ≡ r.status)) × (d2.image ≡ Some r.image)
   -- a whole script is answered 0, or 6, where neither the source's nor the sink's count of faults rose
   pub complete : (input : List ℕ) → s.left ≡ Some input → status_at_end (script_of input) ≡ 0 → (Rose s.faults s2.faults → ⊥) → (Rose k.faults k2.faults → ⊥)
       → (status ≡ 0) ⊎ (status ≡ 6)
@@ -63,12 +69,16 @@ pub record Headline (words : List (List ℕ)) (s s2 : SourceView) (k k2 : SinkVi
   pub text : List ℕ
   pub written : Adds k.written k2.written text
   -- the watch is shown nothing yet
-  pub shown : Shows w [] w2
+  pub watch : w2 ≡ w
   -- the disk that comes back has the image, the size and the read-only flag of the one that went in
   pub disk : SameDisk d d2
   pub known : Stopped status ⊎ ((status ≡ 0) ⊎ ((status ≡ 2) ⊎ ((status ≡ 3) ⊎ (status ≡ 7))))
+  -- 4 exactly where the source failed: a failure stops the run, and is answered as what it is
   pub source_failed : status ≡ 4 → Rose s.faults s2.faults
+  pub source_stops : (s2.faults ≡ s.faults) ⊎ (status ≡ 4)
+  -- and 5 where the sink failed
   pub sink_failed : status ≡ 5 → Rose k.faults k2.faults
+  pub sink_stops : (k2.faults ≡ k.faults) ⊎ (status ≡ 5)
   -- 2 only where the words are not in the grammar
   pub only_usage : status ≡ 2 → bus_of words ≡ None
   pub runs : (bus : BusKind) → bus_of words ≡ Some bus → AnswersScript bus s s2 k k2 d d2 status text

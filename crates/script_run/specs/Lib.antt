@@ -1,3 +1,4 @@
+pub mod DiskCalls
 pub mod DriverCalls
 pub mod EndParts
 pub mod Headline

@@ -1,4 +1,4 @@
-use Rattle.std.specs.Prelude.{ℕ, ◌+◌, ◌==◌, List, [], ◌∷◌, ◌++◌, length, codes, if◌then◌else◌}
+use Rattle.std.specs.Prelude.{ℕ, ◌+◌, ◌==◌, List, [], ◌∷◌, ◌++◌, length, drop, Bool, true, codes, if◌then◌else◌}
 use Rattle.std.specs.Fmt.{decimal}
 use Rattle.std.specs.List.{list_all}
 use Rattle.byteorder.specs.Endian.{big_bytes}
@@ -83,26 +83,39 @@ sector_line n bytes = codes "sector " ++ decimal n ++ codes " " ++ hex bytes ++ 
 abbrev pub sector_text : ℕ → List ℕ → List ℕ
 sector_text n bytes = if list_all (λ b. b == 0) bytes then [] else sector_line n bytes
 
--- the lines of sectors that are numbered from n on
-abbrev pub sector_lines : ℕ → List (List ℕ) → List ℕ
-sector_lines n [] = []
-sector_lines n (s ∷ ss) = sector_text n s ++ sector_lines (n + 1) ss
+-- the line of a sector that can't be read
+abbrev pub unreadable_line : ℕ → List ℕ
+unreadable_line n = codes "sector " ++ decimal n ++ codes " unreadable\n"
+
+-- what is printed for a sector that was read, or not
+abbrev pub reading_text : ℕ → List ℕ → Bool → List ℕ
+reading_text n bytes read = if read then sector_text n bytes else unreadable_line n
+
+-- the first of some outcomes; where there is none the reading succeeds
+abbrev pub first_outcome : List Bool → Bool
+first_outcome [] = true
+first_outcome (b ∷ bs) = b
+
+-- the lines of sectors that are numbered from n on; each reading takes the first of the outcomes
+abbrev pub sector_lines : ℕ → List (List ℕ) → List Bool → List ℕ
+sector_lines n [] outcomes = []
+sector_lines n (s ∷ ss) outcomes = reading_text n s (first_outcome outcomes) ++ sector_lines (n + 1) ss (drop 1 outcomes)
 
 -- the number of sectors
 abbrev pub disk_line : ℕ → List ℕ
 disk_line n = codes "disk " ++ decimal n ++ codes "\n"
 
 -- the disk, and the end
-abbrev pub disk_text : List (List ℕ) → List ℕ
-disk_text sectors = disk_line (length sectors) ++ sector_lines 0 sectors ++ codes "end\n"
+abbrev pub disk_text : List (List ℕ) → List Bool → List ℕ
+disk_text sectors outcomes = disk_line (length sectors) ++ sector_lines 0 sectors outcomes ++ codes "end\n"
 
 -- the end parts: the sent frames, the console bytes, the disk
-abbrev pub end_text : List (List ℕ) → List ℕ → List (List ℕ) → List ℕ
-end_text sent console sectors = frames_text sent ++ console_line console ++ disk_text sectors
+abbrev pub end_text : List (List ℕ) → List ℕ → List (List ℕ) → List Bool → List ℕ
+end_text sent console sectors outcomes = frames_text sent ++ console_line console ++ disk_text sectors outcomes
 
 -- those of a world
-abbrev pub end_parts : World → List ℕ
-end_parts w = end_text w.sent w.console w.disk.sectors
+abbrev pub end_parts : World → List Bool → List ℕ
+end_parts w outcomes = end_text w.sent w.console w.disk.sectors outcomes
 
 -- the bytes that are written, the status, and the disk's last image
 pub record Report : Type 0 where
@@ -123,14 +136,15 @@ line_report bus k (Operates op events) w raw known rest =
     let o = placed_line bus w op events t.place in
     before (reply_line k o.reply t.place t.count) (rest o.world t.raw t.known)
 
--- the report of a script after k lines
-abbrev pub report_from : BusKind → Script → ℕ → World → RawState → DriverRecord → Report
-report_from bus Ends k w raw known = record { text = end_parts w; status = 0; image = w.disk.sectors }
-report_from bus BadLine k w raw known = record { text = codes "fault " ++ decimal (k + 1) ++ codes "\n"; status = 3; image = w.disk.sectors }
-report_from bus TooLong k w raw known = record { text = codes "too long\n"; status = 7; image = w.disk.sectors }
-report_from bus (Line line rest) k w raw known =
-    line_report bus (k + 1) line w raw known (λ w2 raw2 known2. report_from bus rest (k + 1) w2 raw2 known2)
+-- the report of a script after k lines, where the readings of sectors have these outcomes
+abbrev pub report_from : BusKind → Script → ℕ → World → RawState → DriverRecord → List Bool → Report
+report_from bus Ends k w raw known outcomes = record { text = end_parts w outcomes; status = 0; image = w.disk.sectors }
+report_from bus BadLine k w raw known outcomes = record { text = codes "fault " ++ decimal (k + 1) ++ codes "\n"; status = 3; image = w.disk.sectors }
+report_from bus TooLong k w raw known outcomes = record { text = codes "too long\n"; status = 7; image = w.disk.sectors }
+report_from bus (Line line rest) k w raw known outcomes =
+    line_report bus (k + 1) line w raw known (λ w2 raw2 known2. report_from bus rest (k + 1) w2 raw2 known2 outcomes)
 
--- the report of a script on a bus, from an input and a disk
-abbrev pub report_of : BusKind → List ℕ → AbstractDisk → Report
-report_of bus input disk = report_from bus (script_of input) 0 (new_world disk) new_raw_state new_record
+-- the report of a script on a bus, from an input, a disk, and the outcomes of the readings of its sectors (true where one
+-- succeeds): one for each sector in the end parts, and past the end of the list each succeeds
+abbrev pub report_of : BusKind → List ℕ → AbstractDisk → List Bool → Report
+report_of bus input disk outcomes = report_from bus (script_of input) 0 (new_world disk) new_raw_state new_record outcomes

@@ -10,11 +10,12 @@ use Rattle.vt_outside.specs.Sink.{SinkView, Adds}
 use Rattle.vt_outside.specs.Source.{SourceView}
 use Rattle.vt_outside.specs.Text.{IsPrefixOf}
 use Rattle.abstract_devices.specs.World.{AbstractDisk, new_world}
+use Rattle.script_run.specs.DiskCalls.{SameDisk, AddsOutcomes, AreOutcomes, AreCallsOf}
 use Rattle.script_run.specs.declared.stop.Stop.{Stop}
 use Rattle.script_run.specs.declared.stop.Stop.TheVariants.{Read, Write, Memory}
 use Rattle.script_run.specs.Input.{TakesAtMost}
 use Rattle.script_run.specs.Lowering.{DriverRecord, IsRunnable, new_record}
-use Rattle.script_run.specs.Output.{AllOrPart, SendCause, SameDisk}
+use Rattle.script_run.specs.Output.{AllOrPart, SendCause}
 use Rattle.script_run.specs.RawServe.{raw_event}
 use Rattle.script_run.specs.RawState.{RawState, new_raw_state}
 use Rattle.script_run.specs.Report.{Report, report_from, report_of, reply_line, end_text}
@@ -52,21 +53,21 @@ RunsNext k place bytes raw known raw2 known2 text (Ok true) = (line : ScriptLine
 RunsNext k place bytes raw known raw2 known2 text (Ok false) = (line_at place bytes ≡ None) × (text ≡ codes "fault " ++ decimal k ++ codes "\n")
 RunsNext k place bytes raw known raw2 known2 text (Err e) = e ≡ Memory
 
--- the lines of a script were run, with a disk's world beside them: their text was sent, up to the end parts, or with a
--- fault a part of it
-abbrev pub LinesDone : Report → Result ℕ Stop → List ℕ → List ℕ → AbstractDisk → Type 0
-LinesDone r (Ok status) sent console disk =
-    MatchBool (status == 0) (r ≡ record { text = sent ++ end_text [] console disk.sectors; status = 0; image = disk.sectors })
+-- the lines of a script were run, with a disk's world beside them and the outcomes of its readings: their text was sent,
+-- up to the end parts, or with a fault a part of it
+abbrev pub LinesDone : Report → Result ℕ Stop → List ℕ → List ℕ → AbstractDisk → List Bool → Type 0
+LinesDone r (Ok status) sent console disk outcomes =
+    MatchBool (status == 0) (r ≡ record { text = sent ++ end_text [] console disk.sectors outcomes; status = 0; image = disk.sectors })
     ((r.text ≡ sent) × (r.status ≡ status))
-LinesDone r (Err e) sent console disk = IsPrefixOf sent r.text
+LinesDone r (Err e) sent console disk outcomes = IsPrefixOf sent r.text
 
 -- the lines of a script were run, from a source that was read whole to a sink
 pub record RunsLines (bytes : List ℕ) (more : Bool) (k k2 : SinkView) (console : List ℕ) (result : Result ℕ Stop) : Type 0 where
-  pub later : k.faults ≤ k2.faults
   pub cause : SendCause result k k2
   pub sent : List ℕ
   pub adds : Adds k.written k2.written sent
-  pub done : (disk : AbstractDisk) → LinesDone (report_from Mmio (script_in 0 bytes more) 0 (new_world disk) new_raw_state new_record) result sent console disk
+  pub done : (disk : AbstractDisk) (outcomes : List Bool)
+      → LinesDone (report_from Mmio (script_in 0 bytes more) 0 (new_world disk) new_raw_state new_record outcomes) result sent console disk outcomes
 
 -- a last text, and the status after it
 abbrev pub EndingPart : Result ℕ Stop → List ℕ → List ℕ → ℕ → Type 0
@@ -75,7 +76,6 @@ EndingPart (Err e) sent bytes status = IsPrefixOf sent bytes
 
 -- a last text was sent, and the status is this one
 pub record SendsEnding (bytes : List ℕ) (status : ℕ) (k k2 : SinkView) (result : Result ℕ Stop) : Type 0 where
-  pub later : k.faults ≤ k2.faults
   pub cause : SendCause result k k2
   pub sent : List ℕ
   pub adds : Adds k.written k2.written sent
@@ -85,44 +85,36 @@ pub record SendsEnding (bytes : List ℕ) (status : ℕ) (k k2 : SinkView) (resu
 abbrev pub IsInput : List ℕ → Input → Type 0
 IsInput left i = (i.bytes.items ≡ take MOST_BYTES left) × (i.more ≡ nat_lt MOST_BYTES (length left))
 
--- what was read, or why nothing was
+-- what was read
+pub record ReadsWhole (s s2 : SourceView) (i : Input) : Type 0 where
+  pub calm : s2.faults ≡ s.faults
+  pub input : (left : List ℕ) → s.left ≡ Some left → IsInput left i
+  pub few : length i.bytes.items ≤ MOST_BYTES
+  pub leaves : (left : List ℕ) → s.left ≡ Some left → s2.left ≡ Some (drop (MOST_BYTES + 1) left)
+
+-- what was read, or why nothing was: the source failed, or there was no memory and its count of faults is as it was
 abbrev pub ReadsWhat : SourceView → SourceView → Result Input Stop → Type 0
-ReadsWhat s s2 (Ok i) =
-    ((left : List ℕ) → s.left ≡ Some left → IsInput left i) × (length i.bytes.items ≤ MOST_BYTES) × ((left : List ℕ) → s.left ≡ Some left → s2.left ≡ Some (drop (MOST_BYTES + 1) left))
+ReadsWhat s s2 (Ok i) = ReadsWhole s s2 i
 ReadsWhat s s2 (Err Read) = Rose s.faults s2.faults
 ReadsWhat s s2 (Err Write) = ⊥
-ReadsWhat s s2 (Err Memory) = Unit {0}
+ReadsWhat s s2 (Err Memory) = s2.faults ≡ s.faults
 
 -- a source was read, or it failed, or there was no memory
 pub record ReadsInput (s s2 : SourceView) (result : Result Input Stop) : Type 0 where
-  pub later : s.faults ≤ s2.faults
   pub takes : TakesAtMost (MOST_BYTES + 1) s.left s2.left
   pub what : ReadsWhat s s2 result
 
--- the causes of the ways in which a script may stop
+-- how a script ended or stopped: the count of faults of what stopped it rose, and the others are as they were
 abbrev pub ScriptCause : Result ℕ Stop → SourceView → SourceView → SinkView → SinkView → Type 0
-ScriptCause (Ok status) s s2 k k2 = (status ≡ 0) ⊎ ((status ≡ 3) ⊎ (status ≡ 7))
-ScriptCause (Err Read) s s2 k k2 = Rose s.faults s2.faults
-ScriptCause (Err Write) s s2 k k2 = Rose k.faults k2.faults
-ScriptCause (Err Memory) s s2 k k2 = Unit {0}
+ScriptCause (Ok status) s s2 k k2 = ((status ≡ 0) ⊎ ((status ≡ 3) ⊎ (status ≡ 7))) × (s2.faults ≡ s.faults) × (k2.faults ≡ k.faults)
+ScriptCause (Err Read) s s2 k k2 = Rose s.faults s2.faults × (k2.faults ≡ k.faults)
+ScriptCause (Err Write) s s2 k k2 = (s2.faults ≡ s.faults) × Rose k.faults k2.faults
+ScriptCause (Err Memory) s s2 k k2 = (s2.faults ≡ s.faults) × (k2.faults ≡ k.faults)
 
 -- the status of a script whose bytes the source told
 abbrev pub EndsAs : Result ℕ Stop → Script → Type 0
 EndsAs (Ok status) script = status ≡ status_at_end script
 EndsAs (Err e) script = Unit {0}
-
--- a script was run: from a source to a sink, beside a disk
-pub record RunsScript (s s2 : SourceView) (k k2 : SinkView) (d d2 : DiskView) (result : Result ℕ Stop) : Type 0 where
-  pub takes : TakesAtMost (MOST_BYTES + 1) s.left s2.left
-  pub cause : ScriptCause result s s2 k k2
-  pub disk : SameDisk d d2
-  pub text : List ℕ
-  pub adds : Adds k.written k2.written text
-  pub ends : (input : List ℕ) → s.left ≡ Some input → EndsAs result (script_of input)
-  pub reads : (input : List ℕ) → s.left ≡ Some input → IfOk result (λ status. status ≡ 0 → s2.left ≡ Some [])
-  pub stops : (input : List ℕ) (disk : AbstractDisk) → s.left ≡ Some input → (status_at_end (script_of input) ≡ 0 → ⊥) → AllOrPart result text (report_of Mmio input disk).text
-  pub report : (input : List ℕ) (image : List (List ℕ)) → s.left ≡ Some input → d.image ≡ Some image → (Rose d.faults d2.faults → ⊥)
-      → AllOrPart result text (report_of Mmio input (record { sectors = image; read_only = d.locked })).text
 
 -- the status of a call that stopped
 abbrev pub status_of_stop : Stop → ℕ
@@ -139,3 +131,20 @@ run_status (Err stop) = status_of_stop stop
 abbrev pub usage_status : Result Unit Stop → ℕ
 usage_status (Ok x) = 2
 usage_status (Err stop) = status_of_stop stop
+
+-- a script was run: from a source to a sink, beside a disk
+pub record RunsScript (s s2 : SourceView) (k k2 : SinkView) (d d2 : DiskView) (result : Result ℕ Stop) : Type 0 where
+  pub takes : TakesAtMost (MOST_BYTES + 1) s.left s2.left
+  pub cause : ScriptCause result s s2 k k2
+  pub disk : SameDisk d d2
+  pub outcomes : List Bool
+  pub tells : AddsOutcomes d.outcomes d2.outcomes outcomes
+  pub calls : AreCallsOf (run_status result) d.count (length outcomes)
+  pub text : List ℕ
+  pub adds : Adds k.written k2.written text
+  pub ends : (input : List ℕ) → s.left ≡ Some input → EndsAs result (script_of input)
+  pub reads : (input : List ℕ) → s.left ≡ Some input → IfOk result (λ status. status ≡ 0 → s2.left ≡ Some [])
+  pub stops : (input : List ℕ) (disk : AbstractDisk) (readings : List Bool) → s.left ≡ Some input → (status_at_end (script_of input) ≡ 0 → ⊥)
+      → AllOrPart result text (report_of Mmio input disk readings).text
+  pub report : (input : List ℕ) (image : List (List ℕ)) (readings : List Bool) → s.left ≡ Some input → d.image ≡ Some image → AreOutcomes d d2 readings
+      → AllOrPart result text (report_of Mmio input (record { sectors = image; read_only = d.locked }) readings).text

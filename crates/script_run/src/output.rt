@@ -1,13 +1,13 @@
 //! What is sent to the sink.
 
-ghost use Rattle.std.specs.Prelude.{◌≡◌, ℕ, ◌+◌, ◌<◌, ◌≤◌, List, [], ◌++◌, length, codes, OnOk, OnErr};
-ghost use Rattle.std.specs.Fmt.{decimal};
+ghost use Rattle.std.specs.Prelude.{◌≡◌, ℕ, ◌+◌, ◌<◌, ◌≤◌, List, [], length, is_ok};
 ghost use Rattle.hex.specs.Hex.{encode_lower};
 ghost use Rattle.vt_outside.specs.Disk.{DiskView};
 ghost use Rattle.vt_outside.specs.Sink.{SinkView};
+ghost use Rattle.script_run.specs.DiskCalls.{IsWhole};
 ghost use Rattle.script_run.specs.EndParts.{console_text, line_of_sector, lines_below};
-ghost use Rattle.script_run.specs.Output.{Sends, SendsImage};
-ghost use Rattle.script_run.specs.Report.{disk_line, disk_text, end_text, hex, sector_text};
+ghost use Rattle.script_run.specs.Output.{Sends, SendsDisk};
+ghost use Rattle.script_run.specs.Report.{disk_line, disk_text, end_text, hex, reading_text};
 
 use crate::report_text::Text;
 use crate::stop::Stop;
@@ -102,8 +102,7 @@ fn send_count<K: Sink>(count: u64, text: &mut Text, sink: &mut K) -> Result<(), 
 /// Makes the line of a sector, which was read or not.
 fn sector_line(n: u64, read: Result<(), Failed>, bytes: &[u8; 512], text: &mut Text)
     requires { PIECE_ROOM ≤ text.old.room + length text.old.bytes }
-    ensures ok { OnOk read (text.new.bytes ≡ sector_text n bytes.now) }
-    ensures err { OnErr read (text.new.bytes ≡ codes "sector " ++ decimal n ++ codes " unreadable\n") }
+    ensures text { text.new.bytes ≡ reading_text n bytes.now (is_ok read) }
     ensures room { PIECE_ROOM ≤ text.new.room + length text.new.bytes }
 {
     text.clear();
@@ -113,7 +112,7 @@ fn sector_line(n: u64, read: Result<(), Failed>, bytes: &[u8; 512], text: &mut T
     }
 }
 
-/// Sends the line of sector `n`, where it isn't all zeros.
+/// Reads sector `n`, and sends its line where it isn't all zeros or can't be read.
 fn send_sector<K: Sink, D: Disk>(
     n: u64,
     text: &mut Text,
@@ -121,8 +120,9 @@ fn send_sector<K: Sink, D: Disk>(
     disk: &mut D,
 ) -> Result<(), Stop>
     requires there { n < (D.view disk.old).count }
+    requires whole { IsWhole (D.view disk.old) }
     requires room { PIECE_ROOM ≤ text.old.room + length text.old.bytes }
-    ensures sends { SendsImage (line_of_sector n) (D.view disk.old) (D.view disk.new) (K.view sink.old) (K.view sink.new) result }
+    ensures sends { SendsDisk (line_of_sector n) 1 (D.view disk.old) (D.view disk.new) (K.view sink.old) (K.view sink.new) result }
     ensures room { PIECE_ROOM ≤ text.new.room + length text.new.bytes }
 {
     let mut bytes = [0u8; 512];
@@ -139,8 +139,9 @@ fn send_sectors<K: Sink, D: Disk>(
     disk: &mut D,
 ) -> Result<(), Stop>
     requires all { count ≡ (D.view disk.old).count }
+    requires whole { IsWhole (D.view disk.old) }
     requires room { PIECE_ROOM ≤ text.old.room + length text.old.bytes }
-    ensures { SendsImage (lines_below count) (D.view disk.old) (D.view disk.new) (K.view sink.old) (K.view sink.new) result }
+    ensures { SendsDisk (lines_below count) count (D.view disk.old) (D.view disk.new) (K.view sink.old) (K.view sink.new) result }
 {
     'sectors: for n in 0..count {
         match send_sector(n, text, sink, disk) {
@@ -154,7 +155,7 @@ fn send_sectors<K: Sink, D: Disk>(
 /// Sends the disk and the end.
 fn send_disk<K: Sink, D: Disk>(text: &mut Text, sink: &mut K, disk: &mut D) -> Result<(), Stop>
     requires { PIECE_ROOM ≤ text.old.room + length text.old.bytes }
-    ensures { SendsImage disk_text (D.view disk.old) (D.view disk.new) (K.view sink.old) (K.view sink.new) result }
+    ensures { SendsDisk disk_text (D.view disk.old).count (D.view disk.old) (D.view disk.new) (K.view sink.old) (K.view sink.new) result }
 {
     let count = disk.sectors();
     match send_count(count, text, sink) {
@@ -177,7 +178,7 @@ pub fn send_end<K: Sink, D: Disk>(
     sink: &mut K,
     disk: &mut D,
 ) -> Result<(), Stop>
-    ensures { SendsImage (end_text [] console.now) (D.view disk.old) (D.view disk.new) (K.view sink.old) (K.view sink.new) result }
+    ensures { SendsDisk (end_text [] console.now) (D.view disk.old).count (D.view disk.old) (D.view disk.new) (K.view sink.old) (K.view sink.new) result }
 {
     text.clear();
     if text.reserve(alloc, PIECE_ROOM).is_err() {

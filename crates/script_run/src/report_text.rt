@@ -6,7 +6,7 @@ ghost use Rattle.std.specs.List.{list_all};
 ghost use Rattle.byteorder.specs.Endian.{big_bytes};
 ghost use Rattle.hex.specs.Hex.{encode_lower};
 ghost use Rattle.vt_types.specs.Reply.{reply_value, Config};
-ghost use Rattle.script_run.specs.Report.{disk_line, sector_text, hex, spaced, why_text, signals_text, reply_text, reply_line};
+ghost use Rattle.script_run.specs.Report.{disk_line, sector_text, unreadable_line, hex, spaced, why_text, signals_text, reply_text, reply_line};
 ghost use Rattle.script_run.specs.Text.{Added};
 
 use hex::encode_to_slice;
@@ -309,7 +309,7 @@ impl Text {
     /// Adds the line of a sector that can't be read.
     pub(crate) fn unreadable(&mut self, n: u64)
         requires { SECTOR_ROOM ≤ self.old.room }
-        ensures { Added self.old self.new (codes "sector " ++ decimal n ++ codes " unreadable\n") }
+        ensures { Added self.old self.new (unreadable_line n) }
     {
         self.text("sector ");
         self.add_number(n);

@@ -40,8 +40,9 @@ impl Input {
         ensures leaves { (left : List ℕ) → (S.view source.old).left ≡ Some left → IfOk result (λ i. (S.view source.new).left ≡ Some (drop (MOST_BYTES + 1) left)) }
         ensures takes { TakesAtMost (MOST_BYTES + 1) (S.view source.old).left (S.view source.new).left }
         ensures few { IfOk result (λ i. length i.bytes.items ≤ MOST_BYTES) }
-        ensures cause { result ≡ Err ReadFault.Read → Rose (S.view source.old).faults (S.view source.new).faults }
-        ensures later { (S.view source.old).faults ≤ (S.view source.new).faults }
+        ensures calm { IfOk result (λ i. (S.view source.new).faults ≡ (S.view source.old).faults) }
+        ensures failed { result ≡ Err ReadFault.Read → Rose (S.view source.old).faults (S.view source.new).faults }
+        ensures memory { result ≡ Err ReadFault.Memory → (S.view source.new).faults ≡ (S.view source.old).faults }
     {
         let mut bytes = Vec::new(alloc);
         let mut room = [0u8; 4096];

@@ -1,6 +1,5 @@
-use Rattle.std.proofs.Common.{◌≡◌, ℕ, ◌-◌, arith, take, drop, length, length-take, length-drop}
+use Rattle.std.proofs.Common.{◌≡◌, ℕ, ◌-◌, ◌∙◌, arith, take, drop, length, length-take, length-drop}
 use Rattle.std.proofs.lemmas.Grind.{common_steps}
-use Rattle.vt_outside.proofs.FaultsLaws.{rose_last}
 use Rattle.vt_outside.proofs.SinkLaws.{adds_then, adds_same, take_then}
 use Rattle.vt_outside.proofs.TextLaws.{prefix_take}
 use Rattle.script_run.proofs.output.send.Goals as goal
@@ -8,7 +7,7 @@ use Rattle.script_run.proofs.output.send.Goals as goal
 pub loop-sent-preserved : goal.loop-sent-preserved
 loop-sent-preserved g c = record {
   bound = let b = (c.in-Ok.ensures).ok.bound in omega (arith, length-take {A = ℕ}, length-drop {A = ℕ}, b);
-  later = let b = (c.in-Ok.ensures).ok.faults in omega (arith, b);
+  calm = (c.in-Ok.ensures).ok.faults ∙ c.loop-sent.invariant.calm;
   adds =
       let b = (c.in-Ok.ensures).ok.adds in
       let e : take (length c.args.bytes.now - c.loop-sent.sent) (drop c.loop-sent.sent c.args.bytes.now) ≡ drop c.loop-sent.sent c.args.bytes.now = grind (arith, common_steps) in
@@ -17,8 +16,7 @@ loop-sent-preserved g c = record {
 
 pub returns-in-Err : goal.returns-in-Err
 returns-in-Err g c = record {
-  later = let b = (c.in-Err.ensures).err.later in omega (arith, b);
-  cause = rose_last _ _ _ c.loop-sent.invariant.later (c.in-Err.ensures).err.rose;
+  cause = rw c.loop-sent.invariant.calm at (c.in-Err.ensures).err.rose;
   sent = take c.loop-sent.sent c.args.bytes.now;
   adds = adds_same _ _ _ _ c.loop-sent.invariant.adds (c.in-Err.ensures).err.same;
   part = prefix_take _ _;

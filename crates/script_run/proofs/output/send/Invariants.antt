@@ -1,11 +1,11 @@
-use Rattle.std.proofs.Common.{length, ◌-◌, ◌≤◌, take}
+use Rattle.std.proofs.Common.{◌≡◌, length, ◌-◌, ◌≤◌, take}
 use Rattle.vt_outside.specs.Sink.{Adds}
 use Rattle.script_run.proofs.output.send.Given as goal
 
 abbrev pub invariant-loop-sent : goal.invariant-loop-sent
 invariant-loop-sent g l = record {
   bound : l.sent ≤ length l.bytes;
-  later : (g.K.Sink.view l.fn.sink).faults ≤ (g.K.Sink.view l.sink).faults;
+  calm : (g.K.Sink.view l.sink).faults ≡ (g.K.Sink.view l.fn.sink).faults;
   adds : Adds (g.K.Sink.view l.fn.sink).written (g.K.Sink.view l.sink).written (take l.sent l.bytes);
 }
 

@@ -1,11 +1,11 @@
 use Rattle.std.proofs.Common.{length, ◌+◌, ◌≤◌}
 use Rattle.std.specs.Prelude.{Ok}
 use Rattle.script_run.specs.EndParts.{lines_below}
-use Rattle.script_run.specs.Output.{SendsImage}
+use Rattle.script_run.specs.Output.{SendsDisk}
 use Rattle.script_run.proofs.output.send_sectors.Given as goal
 
 abbrev pub invariant-sectors : goal.invariant-sectors
 invariant-sectors g l = record {
   room : 8193 ≤ l.text.room + length l.text.bytes;
-  sends : SendsImage (lines_below l.n) (g.D.Disk.view l.fn.disk) (g.D.Disk.view l.disk) (g.K.Sink.view l.fn.sink) (g.K.Sink.view l.sink) (Ok tt);
+  sends : SendsDisk (lines_below l.n) l.n (g.D.Disk.view l.fn.disk) (g.D.Disk.view l.disk) (g.K.Sink.view l.fn.sink) (g.K.Sink.view l.sink) (Ok tt);
 }

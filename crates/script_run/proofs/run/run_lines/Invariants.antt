@@ -1,4 +1,4 @@
-use Rattle.std.proofs.Common.{ℕ, ◌-◌, ◌≤◌, List, drop, length}
+use Rattle.std.proofs.Common.{◌≡◌, ℕ, ◌-◌, ◌≤◌, List, Bool, drop, length}
 use Rattle.vt_outside.specs.Sink.{Adds}
 use Rattle.abstract_devices.specs.World.{AbstractDisk}
 use Rattle.script_run.specs.Script.{script_in}
@@ -10,9 +10,9 @@ invariant-lines g l = record {
   within : l.at ≤ length l.input.bytes.items;
   pattern : l.place ≤ 11;
   numbered : l.number ≤ l.at;
-  later : (g.K.Sink.view l.fn.sink).faults ≤ (g.K.Sink.view l.sink).faults;
+  calm : (g.K.Sink.view l.sink).faults ≡ (g.K.Sink.view l.fn.sink).faults;
   reached : (sent : List ℕ) × Adds (g.K.Sink.view l.fn.sink).written (g.K.Sink.view l.sink).written sent
-      × ((disk : AbstractDisk) → Reaches disk (script_in 0 l.input.bytes.items l.input.more) (script_in l.place (drop l.at l.input.bytes.items) l.input.more) sent l.place l.number l.machine.raw l.driver);
+      × ((disk : AbstractDisk) (outcomes : List Bool) → Reaches disk outcomes (script_in 0 l.input.bytes.items l.input.more) (script_in l.place (drop l.at l.input.bytes.items) l.input.more) sent l.place l.number l.machine.raw l.driver);
 }
 
 abbrev pub decreases-lines : goal.decreases-lines

@@ -1,14 +1,14 @@
 use Rattle.std.proofs.Common.{◌≡◌, false, arith}
 use Rattle.std.specs.Prelude.{◌==◌}
 use Rattle.std.proofs.lemmas.Bool.Decides.{nat_tests}
-use Rattle.script_run.proofs.ScriptRunLaws.{unread, stopped_early, lines_ended, lines_stopped, script_ended, ending_stopped}
+use Rattle.script_run.proofs.ScriptRunLaws.{unread, unmade, lines_ended, lines_stopped, script_ended, ending_stopped}
 use Rattle.script_run.proofs.top_call.run_mmio.Goals as goal
 
 pub returns-in-Err : goal.returns-in-Err
 returns-in-Err g c = unread _ _ _ _ c.in-Err.stop c.in-Err.ensures
 
 pub returns-in-Err-make : goal.returns-in-Err-make
-returns-in-Err-make g c = stopped_early _ _ _ _ c.in-Err-make.stop (c.in-Ok.ensures).takes (rw (c.in-Err-make.ensures).memory tt)
+returns-in-Err-make g c = unmade _ _ _ _ c.in-Ok.input c.in-Err-make.stop c.in-Ok.ensures (c.in-Err-make.ensures).memory
 
 pub returns-in-Ok-run_lines : goal.returns-in-Ok-run_lines
 returns-in-Ok-run_lines g c =

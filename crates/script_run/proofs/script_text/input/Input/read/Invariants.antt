@@ -4,7 +4,7 @@ use Rattle.script_run.proofs.script_text.input.Input.read.Given as goal
 abbrev pub invariant-reads : goal.invariant-reads
 invariant-reads g l = record {
   few : length l.bytes.items ≤ 2 ^ 26;
-  later : (g.S.Source.view l.fn.source).faults ≤ (g.S.Source.view l.source).faults;
+  calm : (g.S.Source.view l.source).faults ≡ (g.S.Source.view l.fn.source).faults;
   told : (left : List ℕ) → (g.S.Source.view l.fn.source).left ≡ Some left →
       (left2 : List ℕ) × ((g.S.Source.view l.source).left ≡ Some left2) × (left ≡ l.bytes.items ++ left2);
 }
