@@ -2,52 +2,9 @@
 //! memory.
 #![tactic(auto)]
 
-use script_run::top;
 use std::process::ExitCode;
-use std::{env, io};
-use vt_outside::{MemDisk, NoWatch, StdSink, StdSource};
-use vt_types::Bytes;
-
-/// How many sectors of zeros the disk has.
-const SECTORS: u32 = 2048;
-
-/// The status where there is no memory for the words or the disk.
-const NO_MEMORY: u8 = 6;
-
-/// The words after the program's name; None where there is no memory for them. Words that are no text are in no
-/// grammar, so none stand for them.
-fn words(rt: &HostRuntime) -> Option<Vec<String>> {
-    let mut words = Vec::new(rt.alloc());
-    let args = match env::args(rt) {
-        Ok(args) => args,
-        Err(error) if error.kind() == io::ErrorKind::OutOfMemory => return None,
-        Err(_) => return Some(words),
-    };
-    for word in args.skip(1) {
-        if words.push(word).is_err() {
-            return None;
-        }
-    }
-    Some(words)
-}
+use vt_start::start;
 
 fn main(rt: HostRuntime) -> ExitCode {
-    let Some(words) = words(&rt) else {
-        return ExitCode::from(NO_MEMORY);
-    };
-    let fails = Bytes::new(rt.alloc());
-    let Ok(disk) = MemDisk::new(rt.alloc(), SECTORS, false, fails) else {
-        return ExitCode::from(NO_MEMORY);
-    };
-    let mut source = StdSource::new(rt.stdin());
-    let mut sink = StdSink::new(rt.stdout());
-    let ended = top(
-        rt.alloc(),
-        &words,
-        &mut source,
-        &mut sink,
-        disk,
-        &mut NoWatch,
-    );
-    ExitCode::from(ended.status)
+    start(&rt)
 }
