@@ -3,7 +3,7 @@
 use crate::top;
 use std::alloc::{AllocError, Global};
 use std::test::Fail;
-use vt_outside::{MemDisk, MemSink, MemSource, NoWatch};
+use vt_outside::{Failed, MemDisk, MemSink, MemSource, NoWatch, Sink};
 use vt_types::{Bytes, Memory};
 
 /// The lines that bring the console up, with a queue of 8.
@@ -22,27 +22,74 @@ fn list(alloc: Global, bytes: &[u8]) -> Result<Bytes, Memory> {
     Ok(all)
 }
 
-/// The status of a call, and whether what it wrote is this text. The first read, or the first write, fails where asked.
+/// Which calls fail: byte k says whether call number k (from 0) of the source, the sink or the disk does.
+#[derive(Clone, Copy)]
+struct Fails<'a> {
+    source: &'a [u8],
+    sink: &'a [u8],
+    disk: &'a [u8],
+}
+
+/// No call fails.
+fn none() -> Fails<'static> {
+    Fails {
+        source: &[],
+        sink: &[],
+        disk: &[],
+    }
+}
+
+/// A sink in memory that counts its calls that failed.
+#[derive(Drop)]
+struct Counting {
+    sink: MemSink,
+    failed: u32,
+}
+
+impl Sink for Counting {
+    ghost use Rattle.vt_outside.specs.Memory.{sink_view};
+
+    ghost view = { λ c. sink_view c.sink };
+
+    fn write(&mut self, bytes: &[u8]) -> Result<usize, Failed> {
+        let written = self.sink.write(bytes);
+        if written.is_err() {
+            self.failed = self.failed.saturating_add(1);
+        }
+        written
+    }
+}
+
+/// The status of a call, how many calls of its sink failed, and whether what it wrote is this text.
 fn answer(
     alloc: Global,
     words: &[&str],
     script: &str,
-    fails: (&[u8], &[u8]),
+    fails: Fails<'_>,
     text: &str,
-) -> Result<(u8, bool), AllocError> {
+) -> Result<(u8, u32, bool), AllocError> {
     let mut all = Vec::new(alloc);
     for word in words {
         all.push(String::from_str(alloc, word)?)?;
     }
-    let mut source = MemSource::new(list(alloc, script.as_bytes())?, list(alloc, fails.0)?);
-    let mut sink = MemSink::new(alloc, 1 << 20, list(alloc, fails.1)?)?;
-    let disk = MemDisk::new(alloc, 2048, false, Bytes::new(alloc))?;
+    let mut source = MemSource::new(list(alloc, script.as_bytes())?, list(alloc, fails.source)?);
+    let mut sink = Counting {
+        sink: MemSink::new(alloc, 1 << 20, list(alloc, fails.sink)?)?,
+        failed: 0,
+    };
+    let disk = MemDisk::new(alloc, 2048, false, list(alloc, fails.disk)?)?;
     let ended = top(alloc, &all, &mut source, &mut sink, disk, &mut NoWatch);
-    Ok((ended.status, sink.bytes() == text.as_bytes()))
+    Ok((
+        ended.status,
+        sink.failed,
+        sink.sink.bytes() == text.as_bytes(),
+    ))
 }
 
+/// The status of a run where no call fails, and whether what it wrote is this text.
 fn run(alloc: Global, script: &str, text: &str) -> Result<(u8, bool), AllocError> {
-    answer(alloc, &["run", "mmio"], script, (&[], &[]), text)
+    let (status, failed, written) = answer(alloc, &["run", "mmio"], script, none(), text)?;
+    Ok((status, written && failed == 0))
 }
 
 fn joined(alloc: Global, parts: &[&str]) -> Result<String, AllocError> {
@@ -90,31 +137,54 @@ fn ends_and_refusals(rt: HostRuntime) -> Result<(), Fail> {
     );
 
     let usage = "usage: vt run BUS [trace] [file NAME] | raw BUS [file NAME] | load BUS N\n";
-    assert_eq!(rt;
-        answer(rt.alloc(), &["run"], "", (&[], &[]), usage)?,
-        (2, true)
-    );
-    assert_eq!(rt;
-        answer(rt.alloc(), &["run", "isa"], "", (&[], &[]), usage)?,
-        (2, true)
-    );
-    assert_eq!(rt;
-        answer(rt.alloc(), &["run", "mmio", "-x"], "", (&[], &[]), usage)?,
-        (2, true)
-    );
-    assert_eq!(rt;
-        answer(rt.alloc(), &["run", "pci-intx"], "", (&[], &[]), usage)?,
-        (2, true)
-    );
+    let run: &[&str] = &["run"];
+    let isa: &[&str] = &["run", "isa"];
+    let more: &[&str] = &["run", "mmio", "-x"];
+    let later: &[&str] = &["run", "pci-intx"];
+    for words in [run, isa, more, later] {
+        assert_eq!(rt; answer(rt.alloc(), words, "", none(), usage)?, (2, 0, true));
+    }
+    Ok(())
+}
 
-    assert_eq!(rt;
-        answer(rt.alloc(), &["run", "mmio"], "", (&[1], &[]), "")?,
-        (4, true)
-    );
-    assert_eq!(rt;
-        answer(rt.alloc(), &["run", "mmio"], "", (&[], &[1]), "")?,
-        (5, true)
-    );
+/// A source, a sink and a disk that fail in the middle.
+#[test]
+fn failures(rt: HostRuntime) -> Result<(), Fail> {
+    let source = Fails {
+        source: &[0, 1],
+        ..none()
+    };
+    let first_write = Fails {
+        sink: &[1],
+        ..none()
+    };
+    let third_write = Fails {
+        sink: &[0, 0, 1],
+        ..none()
+    };
+    let second_sector = Fails {
+        disk: &[0, 1],
+        ..none()
+    };
+    let two_lines = "1 id 3 p=0 n=4\n2 ok p=0 n=2\n";
+    let unreadable = joined(
+        rt.alloc(),
+        &[
+            OPENED,
+            "frames 0\nconsole -\ndisk 2048\nsector 1 unreadable\nend\n",
+        ],
+    )?;
+    for (fails, text, status, failed) in [
+        (source, "", 4u8, 0u32),
+        (first_write, "", 5u8, 1u32),
+        (third_write, two_lines, 5u8, 1u32),
+        (second_sector, unreadable.as_str(), 0u8, 0u32),
+    ] {
+        assert_eq!(rt;
+            answer(rt.alloc(), &["run", "mmio"], OPENING, fails, text)?,
+            (status, failed, true)
+        );
+    }
     Ok(())
 }
 
