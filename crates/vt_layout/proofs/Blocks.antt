@@ -1,5 +1,5 @@
 -- Queue blocks.
-use Rattle.std.proofs.Common.{◌≡◌, ℕ, ◌+◌, ◌*◌, ◌<◌, refl, arith}
+use Rattle.std.proofs.Common.{ℕ, ◌+◌, ◌<◌, refl, arith}
 use Rattle.vt_types.specs.declared.device.Dev.{Dev}
 use Rattle.vt_types.specs.declared.device.Dev.TheVariants.{Blk, Net, Con}
 use Rattle.vt_types.specs.Device.{queue_count, first_block, queue_block}
