@@ -92,31 +92,31 @@ both off = record { off = off; width = 4; load = true; store = true }
 -- the rows of a page, in the order of their numbers (VIRTIO 1.2, 4.2.2)
 abbrev pub mmio_rows : List Row
 mmio_rows =
-    loaded 0x000
-    ∷ loaded 0x004
-    ∷ loaded 0x008
-    ∷ loaded 0x00c
-    ∷ loaded 0x010
-    ∷ stored 0x014
-    ∷ stored 0x020
-    ∷ stored 0x024
-    ∷ stored 0x030
-    ∷ loaded 0x034
-    ∷ stored 0x038
-    ∷ both 0x044
-    ∷ stored 0x050
-    ∷ loaded 0x060
-    ∷ stored 0x064
-    ∷ both 0x070
-    ∷ stored 0x080
-    ∷ stored 0x084
-    ∷ stored 0x090
-    ∷ stored 0x094
-    ∷ stored 0x0a0
-    ∷ stored 0x0a4
-    ∷ loaded 0x0b0
-    ∷ loaded 0x0b4
-    ∷ loaded 0x0fc
+    loaded 0x000  -- MagicValue
+    ∷ loaded 0x004  -- Version
+    ∷ loaded 0x008  -- DeviceID
+    ∷ loaded 0x00c  -- VendorID
+    ∷ loaded 0x010  -- DeviceFeatures
+    ∷ stored 0x014  -- DeviceFeaturesSel
+    ∷ stored 0x020  -- DriverFeatures
+    ∷ stored 0x024  -- DriverFeaturesSel
+    ∷ stored 0x030  -- QueueSel
+    ∷ loaded 0x034  -- QueueNumMax
+    ∷ stored 0x038  -- QueueNum
+    ∷ both 0x044  -- QueueReady
+    ∷ stored 0x050  -- QueueNotify
+    ∷ loaded 0x060  -- InterruptStatus
+    ∷ stored 0x064  -- InterruptACK
+    ∷ both 0x070  -- Status
+    ∷ stored 0x080  -- QueueDescLow
+    ∷ stored 0x084  -- QueueDescHigh
+    ∷ stored 0x090  -- QueueDriverLow
+    ∷ stored 0x094  -- QueueDriverHigh
+    ∷ stored 0x0a0  -- QueueDeviceLow
+    ∷ stored 0x0a4  -- QueueDeviceHigh
+    ∷ loaded 0x0b0  -- SHMLenLow
+    ∷ loaded 0x0b4  -- SHMLenHigh
+    ∷ loaded 0x0fc  -- ConfigGeneration
     ∷ []
 
 -- the bytes of a page (our own)
