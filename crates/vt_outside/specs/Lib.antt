@@ -4,5 +4,9 @@ pub mod Source
 pub mod Sink
 pub mod Adapted
 pub mod Disk
+pub mod File
+pub mod DiskCall
+pub mod Tripped
+pub mod Meets
 pub mod Watch
 pub mod Memory

@@ -5,6 +5,7 @@
 mod calls;
 mod disk;
 mod failed;
+mod file_disk;
 mod mem_disk;
 mod mem_sink;
 mod mem_source;
@@ -16,10 +17,12 @@ mod std_sink;
 mod std_source;
 #[cfg(test)]
 mod tests;
+mod tripped;
 mod watch;
 
 pub use disk::Disk;
 pub use failed::{Back, Failed};
+pub use file_disk::FileDisk;
 pub use mem_disk::MemDisk;
 pub use mem_sink::MemSink;
 pub use mem_source::MemSource;
@@ -29,4 +32,5 @@ pub use sink::Sink;
 pub use source::Source;
 pub use std_sink::StdSink;
 pub use std_source::StdSource;
+pub use tripped::Tripped;
 pub use watch::Watch;

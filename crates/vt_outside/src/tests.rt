@@ -1,11 +1,11 @@
-//! Worked rows: each thing in memory with a call that fails in the middle, and the adapters over std.
+//! Worked rows: each thing in memory with a call that fails in the middle, a disk with a trip, and the adapters over std.
 
 ghost use Rattle.std.specs.Prelude.{◌≡◌, ◌<◌, [], ◌∷◌, Some, true, false, length};
 ghost use Rattle.vt_outside.specs.Memory.{no_calls, disk_view};
 
 use crate::{
-    Back, Disk, Failed, MemDisk, MemSink, MemSource, MemWatch, NoWatch, Sink, Source, StdSink,
-    StdSource, Watch,
+    Back, Disk, Failed, FileDisk, MemDisk, MemSink, MemSource, MemWatch, NoWatch, Sink, Source,
+    StdSink, StdSource, Tripped, Watch,
 };
 use std::alloc::Global;
 use std::io;
@@ -142,6 +142,48 @@ fn readers_and_writers_of_std(rt: HostRuntime) -> Result<(), Fail> {
     let mut sink = StdSink::new(Cursor::new([0; 4]));
     for (piece, answer) in [(b"abc", Ok(3)), (b"def", Ok(1)), (b"ghi", Err(Failed))] {
         assert_eq!(rt; write_to(&mut sink, piece), answer);
+    }
+    Ok(())
+}
+
+/// A disk whose third call fails, and a trip that fails the second call before it comes there.
+#[test]
+fn a_trip_fails_one_call(rt: HostRuntime) -> Result<(), Fail> {
+    let alloc = rt.alloc();
+    let disk = MemDisk::new(alloc, 2, false, bytes(alloc, &[0, 0, 1])?)?;
+    let mut disk = Tripped::new(disk);
+    let mut room = [9; 512];
+    assert!(rt; 1 < disk.sectors());
+    assert!(rt; !disk.read_only());
+    disk.set_trip(2);
+    assert_eq!(rt; disk.write_sector(1, &[7; 512]), Ok(()));
+    assert_eq!(rt; disk.flush(), Err(Failed));
+    assert_eq!(rt; disk.read_sector(1, &mut room), Ok(()));
+    assert_eq!(rt; room[0], 7);
+    assert_eq!(rt; disk.read_sector(1, &mut room), Err(Failed));
+    disk.set_trip(1);
+    assert_eq!(rt; disk.peek_sector(0, &mut room), Ok(()));
+    assert_eq!(rt; room[0], 0);
+    assert_eq!(rt; disk.read_sector(0, &mut room), Err(Failed));
+    assert_eq!(rt; disk.read_sector(0, &mut room), Ok(()));
+    assert_eq!(rt; disk.into_disk().sectors(), 2);
+    Ok(())
+}
+
+/// A file that is shorter than its disk.
+#[test]
+fn a_disk_over_a_file(rt: HostRuntime) -> Result<(), Fail> {
+    let file = Cursor::new(vec![in rt.alloc(); 5u8; 1024]?);
+    let mut disk = FileDisk::new(file, 3);
+    let mut room = [0; 512];
+    assert_eq!(rt; disk.sectors(), 3);
+    assert!(rt; !disk.read_only());
+    assert_eq!(rt; disk.write_sector(1, &[7; 512]), Ok(()));
+    assert_eq!(rt; disk.flush(), Ok(()));
+    for (n, answer, byte) in [(0, Ok(()), 5), (1, Ok(()), 7), (2, Err(Failed), 7)] {
+        assert!(rt; n < disk.sectors());
+        assert_eq!(rt; disk.read_sector(n, &mut room), answer);
+        assert_eq!(rt; room[511], byte);
     }
     Ok(())
 }
