@@ -1,5 +1,6 @@
 //! What stands outside the machine: sources and sinks of bytes, disks and watches, each as a trait, with forms in
-//! memory whose failures are chosen, and adapters over std's readers and writers. All of it is our own.
+//! memory whose failures are chosen, and adapters over std's readers, writers and files; and a disk with a trip, of which
+//! one call can be made to fail. All of it is our own.
 #![tactic(auto)]
 
 mod calls;
