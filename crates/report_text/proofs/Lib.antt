@@ -1,0 +1,2 @@
+pub mod HexNumber
+pub mod TextLaws

@@ -1,0 +1,10 @@
+use Rattle.std.proofs.Common.{◌*◌, ◌+◌, ◌≤◌, take}
+use Rattle.report_text.specs.Text.{Added}
+use Rattle.report_text.specs.Words.{numbers}
+use Rattle.report_text.proofs.text.Text.number_words.Given as goal
+
+abbrev pub invariant-numbers : goal.invariant-numbers
+invariant-numbers l = record {
+  added : Added l.fn.self l.self (numbers (take l.n-index l.all));
+  room : l.fn.self.room ≤ l.self.room + 24 * l.n-index;
+}

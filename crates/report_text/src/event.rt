@@ -1,0 +1,82 @@
+//! The lines of events in a trace.
+
+ghost use Rattle.std.specs.Prelude.{◌≡◌, ◌+◌, ◌≤◌, ◌++◌, length, codes, if◌then◌else◌};
+ghost use Rattle.std.specs.Fmt.{decimal};
+ghost use Rattle.report_text.specs.Event.{device_text, event_bytes, event_line, event_text};
+ghost use Rattle.report_text.specs.Text.{Added};
+ghost use Rattle.report_text.specs.Words.{word};
+
+use crate::text::{EVENT_ROOM, Text};
+use vt_types::{Dev, Event};
+
+/// How many bytes a frame or the keys of an event have at most.
+pub const EVENT_BYTES: u32 = 2_048;
+
+/// Room that is enough for an event, in bytes.
+const EVENT_TEXT_ROOM: u32 = 4_160;
+
+/// A device as a script names it.
+fn device_name(dev: Dev) -> &'static str
+    ensures name { result.now ≡ device_text dev }
+    ensures short { length result.now ≤ 3 }
+{
+    match dev {
+        Dev::Blk => "blk",
+        Dev::Net => "net",
+        Dev::Con => "con",
+    }
+}
+
+impl Text {
+    /// Adds the line of an event: with at most `EVENT_BYTES` bytes.
+    pub fn event(&mut self, e: &Event)
+        requires few { length (event_bytes e.now) ≤ EVENT_BYTES }
+        requires room { EVENT_ROOM ≤ self.old.room }
+        ensures added { Added self.old self.new (event_line e.now) }
+        ensures room { self.old.room ≤ self.new.room + EVENT_ROOM }
+    {
+        self.text("* ");
+        self.event_text(e);
+        self.text("\n");
+    }
+
+    /// Adds an event.
+    fn event_text(&mut self, e: &Event)
+        requires few { length (event_bytes e.now) ≤ EVENT_BYTES }
+        requires room { EVENT_TEXT_ROOM ≤ self.old.room }
+        ensures added { Added self.old self.new (event_text e.now) }
+        ensures room { self.old.room ≤ self.new.room + EVENT_TEXT_ROOM }
+    {
+        match e {
+            Event::Serve { dev, queue } => self.serve(*dev, *queue),
+            Event::Frame(bytes) => self.named_hex("frame", bytes.as_slice()),
+            Event::Key(bytes) => self.named_hex("key", bytes.as_slice()),
+            Event::Resize(sectors) => self.named_number("resize", *sectors),
+            Event::Link(true) => self.text("link up"),
+            Event::Link(false) => self.text("link down"),
+            Event::Consize { cols, rows } => self.consize(*cols, *rows),
+            Event::Diskfail(ahead) => self.named_number("diskfail", *ahead as u64),
+        }
+    }
+
+    /// Adds that a device serves a queue.
+    fn serve(&mut self, dev: Dev, queue: u16)
+        requires { EVENT_TEXT_ROOM ≤ self.old.room }
+        ensures added { Added self.old self.new (codes "serve" ++ word (device_text dev) ++ word (decimal queue)) }
+        ensures room { self.old.room ≤ self.new.room + EVENT_TEXT_ROOM }
+    {
+        self.text("serve");
+        self.word(device_name(dev));
+        self.number_word(queue as u64);
+    }
+
+    /// Adds that the console has another size.
+    fn consize(&mut self, cols: u16, rows: u16)
+        requires { EVENT_TEXT_ROOM ≤ self.old.room }
+        ensures added { Added self.old self.new (codes "consize" ++ word (decimal cols) ++ word (decimal rows)) }
+        ensures room { self.old.room ≤ self.new.room + EVENT_TEXT_ROOM }
+    {
+        self.named_number("consize", cols as u64);
+        self.number_word(rows as u64);
+    }
+}

@@ -1,0 +1,114 @@
+//! The lines of replies.
+
+ghost use Rattle.std.specs.Prelude.{◌≡◌, ◌+◌, ◌≤◌, ◌++◌, length, codes};
+ghost use Rattle.std.specs.Fmt.{decimal};
+ghost use Rattle.vt_types.specs.Reply.{reply_value};
+ghost use Rattle.report_text.specs.Reply.{reply_line, reply_text, signals_text, why_text};
+ghost use Rattle.report_text.specs.Text.{Added};
+ghost use Rattle.report_text.specs.Words.{hex, word};
+
+use crate::text::{LINE_ROOM, Text};
+use vt_types::{Place, Reply, Room, Why};
+
+/// Room that is enough for a reply, in bytes.
+const REPLY_ROOM: u32 = 16_512;
+
+/// Room that is enough for the queues that signalled, in bytes.
+const SIGNALS_ROOM: u32 = 400;
+
+/// The name of a refusal.
+fn why_name(why: Why) -> &'static str
+    ensures name { result.now ≡ why_text why }
+    ensures short { length result.now ≤ 8 }
+{
+    match why {
+        Why::State => "state",
+        Why::Queue => "queue",
+        Why::Size => "size",
+        Why::Set => "set",
+        Why::Unset => "unset",
+        Why::Tag => "tag",
+        Why::Full => "full",
+        Why::Range => "range",
+        Why::Mode => "mode",
+    }
+}
+
+impl Text {
+    /// Adds the line of a reply: the number of the script's line, the reply, the place of the operation's marked access
+    /// and the number of its accesses. The written bytes of a used buffer are in the room.
+    pub fn reply(&mut self, line: u32, reply: &Reply, room: &Room, place: Place)
+        requires { LINE_ROOM ≤ self.old.room }
+        ensures added { Added self.old self.new (reply_line line (reply_value reply.now room.now.items) place.p place.n) }
+        ensures room { self.old.room ≤ self.new.room + LINE_ROOM }
+    {
+        self.number(line as u64);
+        self.text(" ");
+        self.reply_text(reply, room);
+        self.text(" p=");
+        self.number(place.p as u64);
+        self.text(" n=");
+        self.number(place.n as u64);
+        self.text("\n");
+    }
+
+    /// Adds a reply. The written bytes of a used buffer are in the room.
+    fn reply_text(&mut self, reply: &Reply, room: &Room)
+        requires { REPLY_ROOM ≤ self.old.room }
+        ensures added { Added self.old self.new (reply_text (reply_value reply.now room.now.items)) }
+        ensures room { self.old.room ≤ self.new.room + REPLY_ROOM }
+    {
+        match reply {
+            Reply::Good => self.text("ok"),
+            Reply::Id(id) => self.named_number("id", *id as u64),
+            Reply::Features(features) => self.named_digits("features", 8, *features),
+            Reply::Status(status) => self.named_digits("status", 1, *status as u64),
+            Reply::Value(bytes) => self.named_hex("value", bytes.as_slice()),
+            Reply::Nothing => self.text("none"),
+            Reply::Used { tag, len } => self.used(*tag, *len, room.as_slice()),
+            Reply::Signals(queues) => self.signals(queues.as_slice()),
+            Reply::AnyQueue => self.text("irq some"),
+            Reply::Config(true) => self.text("irq config"),
+            Reply::Config(false) => self.text("irq none"),
+            Reply::Refused(why) => self.refused(*why),
+        }
+    }
+
+    /// Adds a used buffer: its tag, how many bytes were written, and these bytes, at most 8,192.
+    fn used(&mut self, tag: u16, len: u32, bytes: &[u8])
+        requires few { length bytes.now ≤ 8192 }
+        requires room { REPLY_ROOM ≤ self.old.room }
+        ensures added { Added self.old self.new (codes "used" ++ word (decimal tag) ++ word (decimal len) ++ word (hex bytes.now)) }
+        ensures room { self.old.room ≤ self.new.room + REPLY_ROOM }
+    {
+        self.text("used");
+        self.number_word(tag as u64);
+        self.number_word(len as u64);
+        self.hex_word(bytes);
+    }
+
+    /// Adds the queues that signalled: at most 16.
+    fn signals(&mut self, queues: &[u16])
+        requires few { length queues.now ≤ 16 }
+        requires room { SIGNALS_ROOM ≤ self.old.room }
+        ensures added { Added self.old self.new (signals_text queues.now) }
+        ensures room { self.old.room ≤ self.new.room + SIGNALS_ROOM }
+    {
+        if queues.is_empty() {
+            self.text("irq none");
+        } else {
+            self.text("irq");
+            self.number_words(queues);
+        }
+    }
+
+    /// Adds a refusal.
+    fn refused(&mut self, why: Why)
+        requires { SIGNALS_ROOM ≤ self.old.room }
+        ensures added { Added self.old self.new (codes "refused" ++ word (why_text why)) }
+        ensures room { self.old.room ≤ self.new.room + SIGNALS_ROOM }
+    {
+        self.text("refused");
+        self.word(why_name(why));
+    }
+}
