@@ -1,12 +1,12 @@
 //! The lines of accesses: in a trace, and in the report of a raw script.
 
-ghost use Rattle.std.specs.Prelude.{◌≡◌, ◌+◌, ◌≤◌, ◌++◌, length, codes};
+ghost use Rattle.std.specs.Prelude.{◌≡◌, ◌+◌, ◌≤◌, ◌++◌, length};
 ghost use Rattle.std.specs.Fmt.{decimal};
-ghost use Rattle.vt_types.specs.Access.{IsWithinLimits, access_value};
+ghost use Rattle.vt_types.specs.Access.{CfgStore, Diag, IsWithinLimits, Put, Store, Swap, access_value};
 ghost use Rattle.vt_types.specs.Program.{got};
 ghost use Rattle.report_text.specs.Access.{access_line, access_text, address, answer_text, answer_width, offset, raw_line, turn_text};
 ghost use Rattle.report_text.specs.Text.{Added};
-ghost use Rattle.report_text.specs.Words.{hex, low_digits, word};
+ghost use Rattle.report_text.specs.Words.{word};
 
 use crate::text::{LINE_ROOM, SHORT_ROOM, Text};
 use vt_types::{Access, Answer, Room, Turn};
@@ -142,7 +142,7 @@ impl Text {
     fn store(&mut self, addr: u64, width: u8, value: u32)
         requires width { width ≤ 8 }
         requires room { WORDS_ROOM ≤ self.old.room }
-        ensures added { Added self.old self.new (codes "store" ++ word (address addr) ++ word (decimal width) ++ word (low_digits width value)) }
+        ensures added { Added self.old self.new (access_text (Store addr width value)) }
         ensures room { self.old.room ≤ self.new.room + WORDS_ROOM }
     {
         self.counted("store", addr, width as u64);
@@ -153,7 +153,7 @@ impl Text {
     fn put(&mut self, addr: u64, bytes: &[u8])
         requires few { length bytes.now ≤ 8192 }
         requires room { ACCESS_ROOM ≤ self.old.room }
-        ensures added { Added self.old self.new (codes "put" ++ word (address addr) ++ word (hex bytes.now)) }
+        ensures added { Added self.old self.new (access_text (Put addr bytes.now)) }
         ensures room { self.old.room ≤ self.new.room + ACCESS_ROOM }
     {
         self.named_address("put", addr);
@@ -163,7 +163,7 @@ impl Text {
     /// Adds a swap.
     fn swap(&mut self, addr: u64, value: u64)
         requires { WORDS_ROOM ≤ self.old.room }
-        ensures added { Added self.old self.new (codes "swap" ++ word (address addr) ++ word (low_digits 8 value)) }
+        ensures added { Added self.old self.new (access_text (Swap addr value)) }
         ensures room { self.old.room ≤ self.new.room + WORDS_ROOM }
     {
         self.named_address("swap", addr);
@@ -186,7 +186,7 @@ impl Text {
     fn config_store(&mut self, func: u8, off: u16, width: u8, value: u32)
         requires width { width ≤ 8 }
         requires room { WORDS_ROOM ≤ self.old.room }
-        ensures added { Added self.old self.new (codes "cfgstore" ++ word (decimal func) ++ word (offset off) ++ word (decimal width) ++ word (low_digits width value)) }
+        ensures added { Added self.old self.new (access_text (CfgStore func off width value)) }
         ensures room { self.old.room ≤ self.new.room + WORDS_ROOM }
     {
         self.config("cfgstore", func, off, width);
@@ -207,7 +207,7 @@ impl Text {
     /// Adds a diagnose: the function, the subchannel, the value and the cookie.
     fn diag(&mut self, func: u64, id: u32, value: u64, cookie: u64)
         requires { WORDS_ROOM ≤ self.old.room }
-        ensures added { Added self.old self.new (codes "diag" ++ word (low_digits 8 func) ++ word (address id) ++ word (low_digits 8 value) ++ word (low_digits 8 cookie)) }
+        ensures added { Added self.old self.new (access_text (Diag func id value cookie)) }
         ensures room { self.old.room ≤ self.new.room + WORDS_ROOM }
     {
         self.named_digits("diag", 8, func);

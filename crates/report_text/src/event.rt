@@ -1,10 +1,8 @@
 //! The lines of events in a trace.
 
-ghost use Rattle.std.specs.Prelude.{◌≡◌, ◌+◌, ◌≤◌, ◌++◌, length, codes, if◌then◌else◌};
-ghost use Rattle.std.specs.Fmt.{decimal};
+ghost use Rattle.std.specs.Prelude.{◌≡◌, ◌+◌, ◌≤◌, length};
 ghost use Rattle.report_text.specs.Event.{device_text, event_bytes, event_line, event_text};
 ghost use Rattle.report_text.specs.Text.{Added};
-ghost use Rattle.report_text.specs.Words.{word};
 
 use crate::text::{EVENT_ROOM, Text};
 use vt_types::{Dev, Event};
@@ -62,7 +60,7 @@ impl Text {
     /// Adds that a device serves a queue.
     fn serve(&mut self, dev: Dev, queue: u16)
         requires { EVENT_TEXT_ROOM ≤ self.old.room }
-        ensures added { Added self.old self.new (codes "serve" ++ word (device_text dev) ++ word (decimal queue)) }
+        ensures added { Added self.old self.new (event_text (Event.Serve dev queue)) }
         ensures room { self.old.room ≤ self.new.room + EVENT_TEXT_ROOM }
     {
         self.text("serve");
@@ -73,7 +71,7 @@ impl Text {
     /// Adds that the console has another size.
     fn consize(&mut self, cols: u16, rows: u16)
         requires { EVENT_TEXT_ROOM ≤ self.old.room }
-        ensures added { Added self.old self.new (codes "consize" ++ word (decimal cols) ++ word (decimal rows)) }
+        ensures added { Added self.old self.new (event_text (Event.Consize cols rows)) }
         ensures room { self.old.room ≤ self.new.room + EVENT_TEXT_ROOM }
     {
         self.named_number("consize", cols as u64);

@@ -1,11 +1,9 @@
 //! The lines of replies.
 
-ghost use Rattle.std.specs.Prelude.{◌≡◌, ◌+◌, ◌≤◌, ◌++◌, length, codes};
-ghost use Rattle.std.specs.Fmt.{decimal};
-ghost use Rattle.vt_types.specs.Reply.{reply_value};
-ghost use Rattle.report_text.specs.Reply.{reply_line, reply_text, signals_text, why_text};
+ghost use Rattle.std.specs.Prelude.{◌≡◌, ◌+◌, ◌≤◌, length};
+ghost use Rattle.vt_types.specs.Reply.{Refused, Signals, Used, reply_value};
+ghost use Rattle.report_text.specs.Reply.{reply_line, reply_text, why_text};
 ghost use Rattle.report_text.specs.Text.{Added};
-ghost use Rattle.report_text.specs.Words.{hex, word};
 
 use crate::text::{LINE_ROOM, Text};
 use vt_types::{Place, Reply, Room, Why};
@@ -78,7 +76,7 @@ impl Text {
     fn used(&mut self, tag: u16, len: u32, bytes: &[u8])
         requires few { length bytes.now ≤ 8192 }
         requires room { REPLY_ROOM ≤ self.old.room }
-        ensures added { Added self.old self.new (codes "used" ++ word (decimal tag) ++ word (decimal len) ++ word (hex bytes.now)) }
+        ensures added { Added self.old self.new (reply_text (Used tag len bytes.now)) }
         ensures room { self.old.room ≤ self.new.room + REPLY_ROOM }
     {
         self.text("used");
@@ -91,7 +89,7 @@ impl Text {
     fn signals(&mut self, queues: &[u16])
         requires few { length queues.now ≤ 16 }
         requires room { SIGNALS_ROOM ≤ self.old.room }
-        ensures added { Added self.old self.new (signals_text queues.now) }
+        ensures added { Added self.old self.new (reply_text (Signals queues.now)) }
         ensures room { self.old.room ≤ self.new.room + SIGNALS_ROOM }
     {
         if queues.is_empty() {
@@ -105,7 +103,7 @@ impl Text {
     /// Adds a refusal.
     fn refused(&mut self, why: Why)
         requires { SIGNALS_ROOM ≤ self.old.room }
-        ensures added { Added self.old self.new (codes "refused" ++ word (why_text why)) }
+        ensures added { Added self.old self.new (reply_text (Refused why)) }
         ensures room { self.old.room ≤ self.new.room + SIGNALS_ROOM }
     {
         self.text("refused");

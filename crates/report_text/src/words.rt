@@ -2,9 +2,9 @@
 
 ghost use Rattle.std.specs.Prelude.{◌≡◌, ◌==◌, ◌+◌, ◌*◌, ◌≤◌, ◌++◌, length};
 ghost use Rattle.std.specs.Fmt.{decimal};
+ghost use Rattle.std.specs.List.{prefix_len};
 ghost use Rattle.report_text.specs.Access.{address, offset};
 ghost use Rattle.report_text.specs.Text.{Added};
-ghost use Rattle.std.specs.List.{prefix_len};
 ghost use Rattle.report_text.specs.Words.{hex, hex_number, low_digits, numbers, word, zero_digit};
 
 use crate::text::Text;
