@@ -2,7 +2,7 @@
 
 ghost use Rattle.std.specs.Prelude.{◌≡◌, ◌+◌, ◌≤◌, ◌++◌, length};
 ghost use Rattle.std.specs.Fmt.{decimal};
-ghost use Rattle.vt_types.specs.Access.{CfgStore, Diag, IsWithinLimits, Put, Store, Swap, access_value};
+ghost use Rattle.vt_types.specs.Access.{CfgStore, Diag, IsWithinLimits, LONGEST_ACCESS, Put, Store, Swap, access_value};
 ghost use Rattle.vt_types.specs.Program.{got};
 ghost use Rattle.report_text.specs.Access.{access_line, access_text, address, answer_text, answer_width, offset, raw_line, turn_text};
 ghost use Rattle.report_text.specs.Text.{Added};
@@ -149,9 +149,9 @@ impl Text {
         self.low_digits_word(width, value as u64);
     }
 
-    /// Adds a put: at most 8,192 bytes.
+    /// Adds a put: at most `LONGEST_ACCESS` bytes.
     fn put(&mut self, addr: u64, bytes: &[u8])
-        requires few { length bytes.now ≤ 8192 }
+        requires few { length bytes.now ≤ LONGEST_ACCESS }
         requires room { ACCESS_ROOM ≤ self.old.room }
         ensures added { Added self.old self.new (access_text (Put addr bytes.now)) }
         ensures room { self.old.room ≤ self.new.room + ACCESS_ROOM }

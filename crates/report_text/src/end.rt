@@ -1,6 +1,6 @@
 //! The lines at the end of a report.
 
-ghost use Rattle.std.specs.Prelude.{◌≡◌, ◌==◌, ◌+◌, ◌≤◌, length};
+ghost use Rattle.std.specs.Prelude.{◌≡◌, ◌==◌, ◌+◌, ◌*◌, ◌≤◌, length};
 ghost use Rattle.std.specs.List.{list_all};
 ghost use Rattle.report_text.specs.EndParts.{disk_line, end_line, fault_line, frame_line, frames_line, sector_line, sector_text, too_long_line, unreadable_line};
 ghost use Rattle.report_text.specs.Text.{Added};
@@ -25,12 +25,11 @@ impl Text {
         self.text("\n");
     }
 
-    /// Adds the line of a sent frame: at most 8,192 bytes.
+    /// Adds the line of a sent frame. It needs room for two digits for each byte, beside that for a short line.
     pub fn frame(&mut self, bytes: &[u8])
-        requires few { length bytes.now ≤ 8192 }
-        requires room { LINE_ROOM ≤ self.old.room }
+        requires { SHORT_ROOM + 2 * length bytes.now ≤ self.old.room }
         ensures added { Added self.old self.new (frame_line bytes.now) }
-        ensures room { self.old.room ≤ self.new.room + LINE_ROOM }
+        ensures room { self.old.room ≤ self.new.room + SHORT_ROOM + 2 * length bytes.now }
     {
         self.named_hex("frame", bytes);
         self.text("\n");

@@ -7,8 +7,8 @@ ghost use Rattle.report_text.specs.Text.{Added};
 use crate::text::{EVENT_ROOM, Text};
 use vt_types::{Dev, Event};
 
-/// How many bytes a frame or the keys of an event have at most.
-pub const EVENT_BYTES: u32 = 2_048;
+/// The most bytes of a frame or of keys that come with an event (our own).
+pub const LONGEST_EVENT: u32 = 2_048;
 
 /// Room that is enough for an event, in bytes.
 const EVENT_TEXT_ROOM: u32 = 4_160;
@@ -26,9 +26,9 @@ fn device_name(dev: Dev) -> &'static str
 }
 
 impl Text {
-    /// Adds the line of an event: with at most `EVENT_BYTES` bytes.
+    /// Adds the line of an event: with at most `LONGEST_EVENT` bytes.
     pub fn event(&mut self, e: &Event)
-        requires few { length (event_bytes e.now) ≤ EVENT_BYTES }
+        requires few { length (event_bytes e.now) ≤ LONGEST_EVENT }
         requires room { EVENT_ROOM ≤ self.old.room }
         ensures added { Added self.old self.new (event_line e.now) }
         ensures room { self.old.room ≤ self.new.room + EVENT_ROOM }
@@ -40,7 +40,7 @@ impl Text {
 
     /// Adds an event.
     fn event_text(&mut self, e: &Event)
-        requires few { length (event_bytes e.now) ≤ EVENT_BYTES }
+        requires few { length (event_bytes e.now) ≤ LONGEST_EVENT }
         requires room { EVENT_TEXT_ROOM ≤ self.old.room }
         ensures added { Added self.old self.new (event_text e.now) }
         ensures room { self.old.room ≤ self.new.room + EVENT_TEXT_ROOM }

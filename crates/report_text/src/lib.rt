@@ -14,5 +14,5 @@ mod tests;
 mod text;
 mod words;
 
-pub use event::EVENT_BYTES;
+pub use event::LONGEST_EVENT;
 pub use text::{EVENT_ROOM, LINE_ROOM, NUMBER_ROOM, SHORT_ROOM, Text};

@@ -1,6 +1,7 @@
 //! The lines of replies.
 
 ghost use Rattle.std.specs.Prelude.{◌≡◌, ◌+◌, ◌≤◌, length};
+ghost use Rattle.vt_types.specs.Access.{LONGEST_ACCESS};
 ghost use Rattle.vt_types.specs.Reply.{Refused, Signals, Used, reply_value};
 ghost use Rattle.report_text.specs.Reply.{reply_line, reply_text, why_text};
 ghost use Rattle.report_text.specs.Text.{Added};
@@ -72,9 +73,10 @@ impl Text {
         }
     }
 
-    /// Adds a used buffer: its tag, how many bytes were written, and these bytes, at most 8,192.
+    /// Adds a used buffer: its tag, how many bytes were written, and these bytes: at most
+    /// `LONGEST_ACCESS`.
     fn used(&mut self, tag: u16, len: u32, bytes: &[u8])
-        requires few { length bytes.now ≤ 8192 }
+        requires few { length bytes.now ≤ LONGEST_ACCESS }
         requires room { REPLY_ROOM ≤ self.old.room }
         ensures added { Added self.old self.new (reply_text (Used tag len bytes.now)) }
         ensures room { self.old.room ≤ self.new.room + REPLY_ROOM }

@@ -4,11 +4,13 @@ ghost use Rattle.std.specs.Prelude.{◌≤◌, length, IsTrue};
 ghost use Rattle.vt_types.specs.Access.{IsWithinLimits, access_value, is_width};
 ghost use Rattle.report_text.specs.Event.{event_bytes};
 
-use crate::{EVENT_BYTES, LINE_ROOM, Text};
+use crate::{LINE_ROOM, LONGEST_EVENT, Text};
 use arrayvec::ArrayVec;
 use std::alloc::Global;
 use std::test::Fail;
-use vt_types::{Access, Answer, Bytes, Dev, Event, Memory, Place, Reply, Room, Turn, Why};
+use vt_types::{
+    Access, Answer, Bytes, Dev, Event, LONGEST_ACCESS, Memory, Place, Reply, Room, Turn, Why,
+};
 
 fn room_of(bytes: &[u8]) -> Room {
     let mut room = Room::new();
@@ -84,8 +86,8 @@ fn is_within_limits(a: &Access<'_>) -> bool
         Access::CfgLoad { off, width, .. } | Access::CfgStore { off, width, .. } => {
             off <= 0xfff && is_width(width)
         }
-        Access::Put { bytes, .. } => !bytes.is_empty() && bytes.len() <= 8192,
-        Access::Get { count, .. } => 1 <= count && count <= 8192,
+        Access::Put { bytes, .. } => !bytes.is_empty() && bytes.len() <= LONGEST_ACCESS,
+        Access::Get { count, .. } => 1 <= count && count as usize <= LONGEST_ACCESS,
         Access::Zero { count, .. } => 1 <= count,
         Access::Swap { .. }
         | Access::Ssch { .. }
@@ -305,10 +307,10 @@ fn bytes_of(alloc: Global, bytes: &[u8]) -> Result<Bytes, Memory> {
 
 /// Whether an event has few enough bytes.
 fn has_few_bytes(e: &Event) -> bool
-    ensures { IsTrue result → length (event_bytes e.now) ≤ EVENT_BYTES }
+    ensures { IsTrue result → length (event_bytes e.now) ≤ LONGEST_EVENT }
 {
     match e {
-        Event::Frame(bytes) | Event::Key(bytes) => bytes.len() <= EVENT_BYTES as usize,
+        Event::Frame(bytes) | Event::Key(bytes) => bytes.len() <= LONGEST_EVENT as usize,
         Event::Serve { .. }
         | Event::Resize(_)
         | Event::Link(_)

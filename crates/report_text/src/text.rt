@@ -12,8 +12,8 @@ use std::alloc::Global;
 use std::marker::Model;
 use vt_types::Memory;
 
-/// Room that is enough for every line but an event's, in bytes: for 8,192 bytes in hexadecimal on each side of an
-/// access's line, and the words around them.
+/// Room that is enough for the line of an access, a reply or a sector, in bytes: for `LONGEST_ACCESS` bytes in
+/// hexadecimal both in an access and in its answer, and the words around them.
 pub const LINE_ROOM: u32 = 33_024;
 
 /// Room that is enough for the line of an event, in bytes.
