@@ -10,7 +10,8 @@ use Rattle.vt_types.specs.Operation.{Operation, PostedBuffer, Probe, Reset, Feat
 use Rattle.vt_types.specs.Reply.{ReplyValue}
 use Rattle.vt_types.specs.Reply as reply
 pub use Rattle.vt_types.specs.Status.{status_of_step}
-use Rattle.dev_status.specs.Status.{StatusState, EVENT_IDX, write_of, has_bits}
+use Rattle.dev_status.specs.Status.{StatusState, write_of, has_bits}
+use Rattle.vt_types.specs.Features.{EVENT_IDX}
 use Rattle.dev_console.specs.Console.{with_input}
 use Rattle.abstract_devices.specs.World.{World, AbstractDevice, AbstractQueue, Buffer, UsedBuffer, Always, Never, First, device, with_device, queue, with_queue, offered, status_state}
 use Rattle.abstract_devices.specs.Serve.{serve}

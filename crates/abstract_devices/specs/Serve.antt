@@ -1,7 +1,8 @@
 use Rattle.std.specs.Prelude.{ℕ, ◌==◌, ◌&&◌, nat_lt, List, [], ◌∷◌, ◌++◌, length, Bool, true, false, Option, Some, None, if◌then◌else◌}
 use Rattle.vt_types.specs.declared.device.Dev.{Dev}
 use Rattle.vt_types.specs.declared.device.Dev.TheVariants.{Con}
-use Rattle.dev_status.specs.Status.{has_bits, DRIVER_OK}
+use Rattle.dev_status.specs.Status.{has_bits}
+use Rattle.vt_types.specs.Status.{DRIVER_OK}
 use Rattle.dev_console.specs.Console.{ConsoleAnswer, console_answer}
 use Rattle.abstract_devices.specs.World.{World, AbstractDevice, AbstractQueue, Buffer, UsedBuffer, SignalMode, Always, Never, First, queue, with_queue}
 

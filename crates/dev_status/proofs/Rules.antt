@@ -5,7 +5,8 @@ use Rattle.std.proofs.lemmas.Nat.{and_or_apart, and_assoc}
 use Rattle.std.proofs.lemmas.Nat.Bits.{bit_at_and, bit_at_or, same_from_bits}
 use Rattle.std.specs.Int.{bit_at}
 use Rattle.std.specs.Int.Bits.{and_zero_r}
-use Rattle.dev_status.specs.Status.{StatusState, has_bits, add_bit, is_acceptable, status_with, write_of, accept_of, reset_of, DRIVER_OK, FEATURES_OK, DEVICE_NEEDS_RESET}
+use Rattle.dev_status.specs.Status.{StatusState, has_bits, add_bit, is_acceptable, status_with, write_of, accept_of, reset_of}
+use Rattle.vt_types.specs.Status.{DRIVER_OK, FEATURES_OK, DEVICE_NEEDS_RESET}
 
 -- adding bits takes none away
 or_keeps : (n m b : ℕ) → bit_and n b ≡ b → bit_and (bit_or n m) b ≡ b

@@ -1,5 +1,7 @@
 use Rattle.std.specs.Prelude.{ℕ, ◌+◌, ◌*◌, ◌/◌, ◌%◌, ◌^◌, ◌==◌, ◌&&◌, Bool, if◌then◌else◌}
 use Rattle.std.specs.Int.RustNames.{bit_and, bit_or}
+use Rattle.vt_types.specs.Features.{VERSION_1}
+use Rattle.vt_types.specs.Status.{ACKNOWLEDGE, DRIVER, DRIVER_OK, FEATURES_OK, DEVICE_NEEDS_RESET, FAILED}
 
 -- the status machine of a device (VIRTIO 1.2, 2.1 and 2.2): the features that it offers, those that the driver accepted,
 -- and the status byte
@@ -11,35 +13,6 @@ pub record StatusState : Type 0 where
 -- a number has all of these bits
 abbrev pub has_bits : ℕ → ℕ → Bool
 has_bits n bits = bit_and n bits == bits
-
--- the bits of the status (VIRTIO 1.2, 2.1)
-abbrev pub ACKNOWLEDGE : ℕ
-ACKNOWLEDGE = 1
-
-abbrev pub DRIVER : ℕ
-DRIVER = 2
-
-abbrev pub DRIVER_OK : ℕ
-DRIVER_OK = 4
-
-abbrev pub FEATURES_OK : ℕ
-FEATURES_OK = 8
-
-abbrev pub DEVICE_NEEDS_RESET : ℕ
-DEVICE_NEEDS_RESET = 64
-
-abbrev pub FAILED : ℕ
-FAILED = 128
-
--- the features that every device may offer (VIRTIO 1.2, 6)
-abbrev pub INDIRECT_DESC : ℕ
-INDIRECT_DESC = 2 ^ 28
-
-abbrev pub EVENT_IDX : ℕ
-EVENT_IDX = 2 ^ 29
-
-abbrev pub VERSION_1 : ℕ
-VERSION_1 = 2 ^ 32
 
 -- the accepted features are among the offered ones, and VERSION_1 is one of them
 abbrev pub is_acceptable : StatusState → Bool

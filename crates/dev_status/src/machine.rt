@@ -1,7 +1,8 @@
 //! The status machine.
 
 ghost use Rattle.std.specs.Prelude.{◌≡◌, ◌+◌, ◌*◌, ◌/◌, ◌%◌, ◌^◌, ◌<◌, ◌==◌, ◌&&◌, not, if◌then◌else◌};
-ghost use Rattle.dev_status.specs.Status.{has_bits, FEATURES_OK, is_acceptable, add_bit, status_with, reset_of, write_of, feature_word, with_word, accept_of, needs_reset_of};
+ghost use Rattle.dev_status.specs.Status.{has_bits, is_acceptable, add_bit, status_with, reset_of, write_of, feature_word, with_word, accept_of, needs_reset_of};
+ghost use Rattle.vt_types.specs.Status.{FEATURES_OK};
 
 use bitflags::Flags;
 use std::marker::Model;
