@@ -1,6 +1,7 @@
 use Rattle.std.proofs.Common.{◌≡◌, ℕ, List, [], ◌∷◌, Bool, true, false, Option, Some, None, refl, ◌∙◌, take, drop}
 use Rattle.std.specs.Prelude.{◌&&◌, if◌then◌else◌}
-use Rattle.dev_status.specs.Status.{has_bits, DRIVER_OK}
+use Rattle.dev_status.specs.Status.{has_bits}
+use Rattle.vt_types.specs.Status.{DRIVER_OK}
 use Rattle.vt_types.specs.declared.device.BusKind.{BusKind}
 use Rattle.vt_types.specs.declared.device.Dev.{Dev}
 use Rattle.vt_types.specs.declared.device.Dev.TheVariants.{Blk, Net, Con}

@@ -8,7 +8,8 @@ use Rattle.vt_types.specs.declared.device.Dev.TheVariants.{Con}
 use Rattle.vt_types.specs.Operation.{Reap}
 use Rattle.vt_types.specs.Reply as reply
 use Rattle.vq_common.specs.Queue.{DriverQueue}
-use Rattle.dev_status.specs.Status.{INDIRECT_DESC, EVENT_IDX, has_bits}
+use Rattle.dev_status.specs.Status.{has_bits}
+use Rattle.vt_types.specs.Features.{INDIRECT_DESC, EVENT_IDX}
 use Rattle.abstract_devices.specs.World.{World, AbstractQueue, Buffer, with_queue}
 use Rattle.abstract_devices.specs.Operate.{placed_line, reap_queue, reap_front}
 use Rattle.script_run.specs.Lowering.{DriverRecord, cfg_of, with_driver_queue}

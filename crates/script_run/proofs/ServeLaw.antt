@@ -11,7 +11,8 @@ use Rattle.vq_common.specs.Piece.{readable, room}
 use Rattle.vq_split_dev.specs.Walk.{split_walk, split_taken}
 use Rattle.vq_split_dev.specs.Give.{split_given}
 use Rattle.guest_mem.specs.Memory.{part}
-use Rattle.dev_status.specs.Status.{has_bits, DRIVER_OK}
+use Rattle.dev_status.specs.Status.{has_bits}
+use Rattle.vt_types.specs.Status.{DRIVER_OK}
 use Rattle.dev_console.specs.Console.{console_answer}
 use Rattle.abstract_devices.specs.World.{World, AbstractQueue, Buffer}
 use Rattle.abstract_devices.specs.Serve.{serve, serve_front, serve_console, answered, is_served}

@@ -20,7 +20,8 @@ use Rattle.vq_common.specs.Map.{BLOCK_LEN, driver_area, device_area}
 use Rattle.vq_common.specs.Queue.{DriverQueue, ReapedValue, new_driver_queue, post_program, holds_tag, free_slots, slots_of}
 use Rattle.vq_split_drv.specs.Post.{split_post_accesses, split_posted}
 use Rattle.vq_split_drv.specs.Reap.{split_reap_program}
-use Rattle.dev_status.specs.Status.{INDIRECT_DESC, EVENT_IDX, has_bits}
+use Rattle.dev_status.specs.Status.{has_bits}
+use Rattle.vt_types.specs.Features.{INDIRECT_DESC, EVENT_IDX}
 use Rattle.vt_types.specs.Status.{status_of_step}
 use Rattle.script_run.specs.MmioTable.{CONSOLE_PAGE, is_queue_size}
 

@@ -10,7 +10,8 @@ use Rattle.vq_common.specs.Piece.{readable, room, scatter}
 use Rattle.vq_common.specs.Queue.{DeviceQueue, Given}
 use Rattle.vq_split_dev.specs.Walk.{split_walk, split_taken}
 use Rattle.vq_split_dev.specs.Give.{split_given}
-use Rattle.dev_status.specs.Status.{StatusState, has_bits, needs_reset_of, DRIVER_OK, DEVICE_NEEDS_RESET}
+use Rattle.dev_status.specs.Status.{StatusState, has_bits, needs_reset_of}
+use Rattle.vt_types.specs.Status.{DRIVER_OK, DEVICE_NEEDS_RESET}
 use Rattle.dev_console.specs.Console.{ConsoleAnswer, console_answer, with_input}
 use Rattle.script_run.specs.RawState.{RawState, RawDevice, RawQueue}
 

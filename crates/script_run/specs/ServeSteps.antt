@@ -2,7 +2,8 @@ use Rattle.std.specs.Prelude.{◌≡◌, ℕ, ◌≤◌, ◌&&◌, List, Bool, f
 use Rattle.vq_common.specs.Chain.{Walked, Empty, Bad, Front}
 use Rattle.vq_common.specs.Queue.{DeviceQueue, Given}
 use Rattle.vq_split_dev.specs.Walk.{split_walk, split_taken, split_areas_inside}
-use Rattle.dev_status.specs.Status.{StatusState, has_bits, needs_reset_of, DRIVER_OK}
+use Rattle.dev_status.specs.Status.{StatusState, has_bits, needs_reset_of}
+use Rattle.vt_types.specs.Status.{DRIVER_OK}
 use Rattle.dev_console.specs.Console.{ConsoleState}
 use Rattle.script_run.specs.RawServe.{may_serve, with_raw_queue, with_queue_signal, with_config_signal}
 use Rattle.script_run.specs.RawState.{RawState, RawDevice, RawQueue}

@@ -41,6 +41,7 @@ pub trait DeviceEnd: Sized {
         ensures ring { KeepsRing (queue self.old) (queue self.new) };
 
     /// Gives a chain back, in any order: writes the used element and then the index, and answers whether to signal.
+    /// Memory is compared once both are written: in which order they are written isn't claimed.
     fn give(&mut self, mem: &mut GuestMem, chain: &Chain, len: u32) -> bool
         requires areas { IsTrue (areas_inside (length mem.old) (queue self.old).cfg) }
         requires slots { chain.now.slots ≤ (queue self.old).cfg.size }
