@@ -4,3 +4,8 @@ pub mod Puts
 pub mod Zeros
 pub mod Fields
 pub mod ByteLists
+pub mod Tiles
+pub mod Makes
+pub mod Mapped
+pub mod NewMemory
+pub mod Views

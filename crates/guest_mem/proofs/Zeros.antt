@@ -4,11 +4,11 @@ use Rattle.std.proofs.lemmas.List.{take-replicate, drop-replicate, replicate-app
 use Rattle.guest_mem.specs.Memory.{part, put_at}
 
 -- a part of zeros is zeros
-pub part-replicate : (k a n : ℕ) → a + n ≤ k → part (replicate k 0) a n ≡ replicate n 0
+pub part-replicate : (k a n : ℕ) → a + n ≤ k → part {A = ℕ} (replicate k 0) a n ≡ replicate n 0
 part-replicate k a n inside = ap (take n) (drop-replicate a k 0) ∙ take-replicate n (k - a) 0 (omega arith)
 
 -- zeros put among zeros change nothing
-pub put_at-replicate : (k a n : ℕ) → a + n ≤ k → put_at (replicate k 0) a (replicate n 0) ≡ replicate k 0
+pub put_at-replicate : (k a n : ℕ) → a + n ≤ k → put_at {A = ℕ} (replicate k 0) a (replicate n 0) ≡ replicate k 0
 put_at-replicate k a n inside =
     let rest : ℕ = k - (a + n) in
     ap (λ (j : ℕ). take a (replicate k 0) ++ replicate n 0 ++ drop (a + j) (replicate k 0)) (length-replicate n 0)

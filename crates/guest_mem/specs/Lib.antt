@@ -1,1 +1,4 @@
 pub mod Memory
+pub mod Pages
+pub mod Arena
+pub mod PageMap

@@ -1,135 +1,127 @@
-ghost use Rattle.std.specs.Prelude.{◌≡◌, ◌+◌, ◌-◌, ◌≤◌, ◌<◌, ◌^◌, ◌↔◌, length, replicate, IsTrue, IsOk, IfOk, OnOk, OnErr};
-ghost use Rattle.guest_mem.specs.Memory.{part, put_at, be64_at, be64_of, IsByteList};
+//! The memory of a guest.
 
+ghost use Rattle.std.specs.Prelude.{◌≡◌, ◌+◌, ◌*◌, ◌/◌, ◌≤◌, ◌<◌, ◌^◌, ◌↔◌, false, length, replicate, IsTrue, IsOk, IfOk, OnOk};
+ghost use Rattle.guest_mem.specs.Memory.{IsByteList};
+ghost use Rattle.guest_mem.specs.Pages.{pages_made};
+ghost use Rattle.vt_types.specs.Access.{pages_touched};
+
+use crate::arena::{PAGE_SIZE, PageArena};
 use crate::{Memory, Outside};
-use byteorder::{BigEndian, ByteOrder};
 use std::alloc::Global;
 use std::marker::Model;
 
+mod reads;
+mod writes;
+
 /// The memory of a guest, by addresses from 0. Its length never changes.
 ///
-/// A range is inside exactly where its address and its length add up, without wrapping, to no more
-/// than the length of the memory. So an empty range at the length is inside.
+/// It lies in pages of 4,096 bytes, the last of which may pass its end. A page is made when a write first touches it, out
+/// of those that `reserve` set aside; one that was not made reads as zeros. So a memory takes as much of the host as was
+/// written, and 4 bytes for each of its pages.
+///
+/// A range is inside exactly where its address and its length add up, without wrapping, to no more than the length of
+/// the memory. So an empty range at the length is inside. No page is made for an empty range, nor for one that is not
+/// inside.
 #[derive(Drop)]
 pub struct GuestMem {
-    bytes: Vec<u8>,
+    arena: PageArena,
+    page_numbers: Vec<u32>,
+    len: u64,
 }
 
 impl Model for GuestMem {
-    ghost use Rattle.std.specs.Prelude.{List, ℕ};
+    ghost use Rattle.guest_mem.specs.Pages.{MemoryView};
+    ghost use Rattle.guest_mem.specs.PageMap.{IsMapped, view_of};
 
-    ghost Value = { List ℕ };
+    ghost Value = { MemoryView };
 
-    ghost view = { λ memory. memory.bytes.items };
+    ghost view = { λ m. view_of m.arena m.page_numbers.items m.len };
+
+    ghost invariant = { λ m. IsMapped m.arena.pages m.page_numbers.items m.len };
+}
+
+/// The numbers of `count` pages that were not made.
+fn unmade(alloc: Global, count: usize) -> Result<Vec<u32>, Memory>
+    ensures { IfOk result (λ numbers. numbers.items ≡ replicate count 0) }
+{
+    Ok(vec![in alloc; 0; count]?)
 }
 
 impl GuestMem {
-    /// A memory of `len` bytes, all of them zero. It has at most 2^28 bytes.
+    /// A memory of `len` bytes, at most 2^28. Each of them is zero, and no page is made or set aside.
     pub fn new(alloc: Global, len: u64) -> Result<GuestMem, Memory>
         requires { len ≤ 2 ^ 28 }
-        ensures { IfOk result (λ memory. memory ≡ replicate len 0) }
+        ensures { IfOk result (λ m. m ≡ record { bytes = replicate len 0; made = replicate ((len + 4095) / 4096) false; spare = 0 }) }
     {
+        let count = (len as usize + (PAGE_SIZE - 1)) / PAGE_SIZE;
         Ok(GuestMem {
-            bytes: vec![in alloc; 0; len as usize]?,
+            arena: PageArena::new(alloc)?,
+            page_numbers: unmade(alloc, count)?,
+            len,
         })
     }
 
     /// How many bytes the memory has, each of them a number below 256.
+    #[inline]
     pub fn len(&self) -> u64
-        ensures value { result ≡ length self.now }
-        ensures bytes { IsByteList self.now }
+        ensures value { result ≡ length self.now.bytes }
+        ensures pages { result ≤ length self.now.made * 4096 }
+        ensures bytes { IsByteList self.now.bytes }
     {
-        let bytes = self.bytes.as_slice();
-        bytes.len() as u64
+        self.len
     }
 
     /// Whether the memory has no byte at all.
+    #[inline]
     pub fn is_empty(&self) -> bool
-        ensures { IsTrue result ↔ (length self.now ≡ 0) }
+        ensures { IsTrue result ↔ (length self.now.bytes ≡ 0) }
     {
-        self.bytes.is_empty()
+        self.len() == 0
+    }
+
+    /// How many more pages writes may make before `reserve` is called again.
+    #[inline]
+    pub fn spare(&self) -> u32
+        ensures { result ≡ self.now.spare }
+    {
+        self.arena.spare()
+    }
+
+    /// How many pages were made.
+    #[inline]
+    pub fn pages(&self) -> u32
+        ensures { result ≡ pages_made self.now.made }
+    {
+        (self.arena.count() - 1) as u32
+    }
+
+    /// Sets pages aside for writes, so that at least `pages` are spare. After want of memory the spare pages may have
+    /// risen, and all else is as it was.
+    pub fn reserve(&mut self, alloc: Global, pages: u32) -> Result<(), Memory>
+        ensures bytes { self.new.bytes ≡ self.old.bytes }
+        ensures made { self.new.made ≡ self.old.made }
+        ensures spare { self.old.spare ≤ self.new.spare }
+        ensures ok { OnOk result (pages ≤ self.new.spare) }
+        ensures enough { pages ≤ self.old.spare → IsOk result }
+    {
+        let _ = alloc;
+        self.arena.reserve(pages)
     }
 
     /// The index of the first byte of a range that is inside.
-    fn range(&self, addr: u64, count: usize) -> Result<usize, Outside>
-        ensures cause { IsOk result ↔ (addr + count ≤ length self.now) }
+    #[inline]
+    fn start_of(&self, addr: u64, count: usize) -> Result<usize, Outside>
+        ensures cause { IsOk result ↔ (addr + count ≤ length self.now.bytes) }
         ensures value { IfOk result (λ at. at ≡ addr) }
+        ensures pages { IfOk result (λ at. at / 4096 + pages_touched at count ≤ length self.now.made) }
         ensures fits { IfOk result (λ at. at + count < 2 ^ 64) }
     {
-        let len = self.bytes.len() as u64;
+        let len = self.len();
         let count = count as u64;
         if count <= len && addr <= len - count {
             Ok(addr as usize)
         } else {
             Err(Outside)
         }
-    }
-
-    /// Fills `room` with the bytes from `addr` on.
-    pub fn read(&self, addr: u64, room: &mut [u8]) -> Result<(), Outside>
-        ensures cause { IsOk result ↔ (addr + length room.old ≤ length self.now) }
-        ensures ok { OnOk result (room.new ≡ part self.now addr (length room.old)) }
-        ensures err { OnErr result (room.new ≡ room.old) }
-    {
-        let at = self.range(addr, room.len())?;
-        let end = at + room.len();
-        room.copy_from_slice(&self.bytes[at..end]);
-        Ok(())
-    }
-
-    /// Puts `bytes` from `addr` on.
-    pub fn write(&mut self, addr: u64, bytes: &[u8]) -> Result<(), Outside>
-        ensures cause { IsOk result ↔ (addr + length bytes.now ≤ length self.old) }
-        ensures ok { OnOk result (self.new ≡ put_at self.old addr bytes.now) }
-        ensures err { OnErr result (self.new ≡ self.old) }
-    {
-        let at = self.range(addr, bytes.len())?;
-        let end = at + bytes.len();
-        self.bytes[at..end].copy_from_slice(bytes);
-        Ok(())
-    }
-
-    /// Makes `count` bytes from `addr` on zero.
-    pub fn zero(&mut self, addr: u64, count: u16) -> Result<(), Outside>
-        ensures cause { IsOk result ↔ (addr + count ≤ length self.old) }
-        ensures ok { OnOk result (self.new ≡ put_at self.old addr (replicate count 0)) }
-        ensures err { OnErr result (self.new ≡ self.old) }
-    {
-        let at = self.range(addr, count as usize)?;
-        let end = at + count as usize;
-        self.bytes[at..end].fill(0);
-        Ok(())
-    }
-
-    /// Puts `value` as a big-endian number of 64 bits at `addr`, and answers the number that stood
-    /// there.
-    pub fn swap64(&mut self, addr: u64, value: u64) -> Result<u64, Outside>
-        ensures cause { IsOk result ↔ (addr + 8 ≤ length self.old) }
-        ensures value { IfOk result (λ before. before ≡ be64_at self.old addr) }
-        ensures ok { OnOk result (self.new ≡ put_at self.old addr (be64_of value)) }
-        ensures err { OnErr result (self.new ≡ self.old) }
-    {
-        let mut room = [0u8; 8];
-        self.read(addr, &mut room)?;
-        let before = BigEndian::read_u64(&room);
-        BigEndian::write_u64(&mut room, value);
-        self.write(addr, &room)?;
-        Ok(before)
-    }
-
-    /// Makes room for writes that touch `pages` pages. All of the memory is there from the start,
-    /// so this always succeeds and changes nothing.
-    pub fn reserve(&mut self, _alloc: Global, _pages: u32) -> Result<(), Memory>
-        ensures ok { IsOk result }
-        ensures same { self.new ≡ self.old }
-    {
-        Ok(())
-    }
-
-    /// How many more pages may be written without a call of `reserve`: no number is too great.
-    pub fn spare(&self) -> u32
-        ensures { result ≡ 2 ^ 32 - 1 }
-    {
-        u32::MAX
     }
 }

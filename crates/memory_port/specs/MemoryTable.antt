@@ -2,7 +2,7 @@ use Rattle.std.specs.Prelude.{◌≡◌, ℕ, ◌+◌, nat_le, List, [], length,
 use Rattle.guest_mem.specs.Memory.{part, put_at, be64_at, be64_of}
 use Rattle.vt_types.specs.declared.access.Answer.{Answer}
 use Rattle.vt_types.specs.declared.access.Answer.TheVariants.{Word, Done, Got, Outside, NoSuch}
-use Rattle.vt_types.specs.Access.{AccessValue, Put, Get, Zero, Swap}
+use Rattle.vt_types.specs.Access.{AccessValue, Load, Store, Put, Get, Zero, Swap, CfgLoad, CfgStore, Ssch, Tsch, Stsch, Msch, Csch, TurnOf, Diag}
 use Rattle.vt_types.specs.Program.{got, is_got}
 
 -- an access whose range ends inside memory answers as `inside` says; another one answers Outside and changes nothing
@@ -16,7 +16,17 @@ memory_table (Put addr bytes) mem = if_inside mem addr (length bytes) (Done, [],
 memory_table (Get addr count) mem = if_inside mem addr count (Got, part mem addr count, mem)
 memory_table (Zero addr count) mem = if_inside mem addr count (Done, [], put_at mem addr (replicate count 0))
 memory_table (Swap addr value) mem = if_inside mem addr 8 (Word (be64_at mem addr), [], put_at mem addr (be64_of value))
-memory_table _ mem = (NoSuch, [], mem)
+memory_table (Load addr width) mem = (NoSuch, [], mem)
+memory_table (Store addr width value) mem = (NoSuch, [], mem)
+memory_table (CfgLoad func off width) mem = (NoSuch, [], mem)
+memory_table (CfgStore func off width value) mem = (NoSuch, [], mem)
+memory_table (Ssch id addr) mem = (NoSuch, [], mem)
+memory_table (Tsch id addr) mem = (NoSuch, [], mem)
+memory_table (Stsch id addr) mem = (NoSuch, [], mem)
+memory_table (Msch id addr) mem = (NoSuch, [], mem)
+memory_table (Csch id) mem = (NoSuch, [], mem)
+memory_table (TurnOf id) mem = (NoSuch, [], mem)
+memory_table (Diag func id value cookie) mem = (NoSuch, [], mem)
 
 -- one access of guest memory: the table answers it, and the room is as before unless bytes came
 pub record MemoryStep (mem : List ℕ) (a : AccessValue) (answer : Answer) (room room2 : List ℕ) (mem2 : List ℕ) : Type 0 where

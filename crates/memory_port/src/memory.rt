@@ -3,7 +3,7 @@
 ghost use Rattle.std.specs.Prelude.{◌≡◌, ◌+◌, ◌≤◌, nat_le, [], OnOk, OnErr, false, length, if◌then◌else◌};
 ghost use Rattle.guest_mem.specs.Memory.{part};
 ghost use Rattle.vt_types.specs.declared.access.Answer.TheVariants.{Done, Got, Outside as PastTheEnd};
-ghost use Rattle.vt_types.specs.Access.{access_value, IsWithinLimits};
+ghost use Rattle.vt_types.specs.Access.{access_value, access_cost, IsWithinLimits, LONGEST_ACCESS};
 ghost use Rattle.vt_types.specs.Program.{got, is_got};
 ghost use Rattle.memory_port.specs.MemoryTable.{MemoryStep};
 
@@ -21,46 +21,29 @@ fn done(put: Result<(), Outside>) -> Answer
     }
 }
 
-/// Fills a room with at most `N` bytes of memory. The room stays as it is where they pass its end.
-fn get_up_to<const N: usize>(memory: &GuestMem, addr: u64, count: u16, room: &mut Room) -> Answer
-    requires few { count ≤ N }
-    requires most { N ≤ 8192 }
-    ensures answer { result ≡ (if nat_le (addr + count) (length memory.now) then Got else PastTheEnd) }
-    ensures bytes { got result room.new.items ≡ (if nat_le (addr + count) (length memory.now) then part memory.now addr count else []) }
-    ensures leaves { is_got result ≡ false → room.new.items ≡ room.old.items }
-{
-    let mut bytes = [0u8; N];
-    let bytes = &mut bytes[..count as usize];
-    match memory.read(addr, bytes) {
-        Ok(()) => {
-            room.clear();
-            let _fits = room.try_extend_from_slice(bytes);
-            Answer::Got
-        }
-        Err(Outside) => Answer::Outside,
-    }
-}
-
-/// Fills a room with bytes of memory; a short get clears few bytes of its own.
+/// Fills a room with bytes of memory. The room stays as it is where they pass its end.
 fn get(memory: &GuestMem, addr: u64, count: u16, room: &mut Room) -> Answer
-    requires { count ≤ 8192 }
-    ensures answer { result ≡ (if nat_le (addr + count) (length memory.now) then Got else PastTheEnd) }
-    ensures bytes { got result room.new.items ≡ (if nat_le (addr + count) (length memory.now) then part memory.now addr count else []) }
+    requires { count ≤ LONGEST_ACCESS }
+    ensures answer { result ≡ (if nat_le (addr + count) (length memory.now.bytes) then Got else PastTheEnd) }
+    ensures bytes { got result room.new.items ≡ (if nat_le (addr + count) (length memory.now.bytes) then part memory.now.bytes addr count else []) }
     ensures leaves { is_got result ≡ false → room.new.items ≡ room.old.items }
 {
-    if count <= 64 {
-        get_up_to::<64>(memory, addr, count, room)
-    } else {
-        get_up_to::<8192>(memory, addr, count, room)
+    match memory.read_into(addr, count as usize, room) {
+        Ok(()) => Answer::Got,
+        Err(Outside) => Answer::Outside,
     }
 }
 
 /// Does an access of guest memory: a put, a get, a zeroing or a swap. `Outside` comes exactly where the access's range
 /// passes the end of memory, and `NoSuch` exactly for another kind of access; both change nothing. After `Got` the
 /// bytes are in the room.
+///
+/// Memory has to have a spare page for each page that the access touches, so that it can make those that were not made.
 pub fn access(memory: &mut GuestMem, a: &Access<'_>, room: &mut Room) -> Answer
-    requires { IsWithinLimits (access_value a.now) }
-    ensures { MemoryStep memory.old (access_value a.now) result room.old.items room.new.items memory.new }
+    requires limits { IsWithinLimits (access_value a.now) }
+    requires pages { access_cost (access_value a.now) ≤ memory.old.spare }
+    ensures step { MemoryStep memory.old.bytes (access_value a.now) result room.old.items room.new.items memory.new.bytes }
+    ensures pages { memory.old.spare ≤ memory.new.spare + access_cost (access_value a.now) }
 {
     match *a {
         Access::Put { addr, bytes } => done(memory.write(addr, bytes)),

@@ -7,22 +7,22 @@ use vt_types::{Access, Answer, Port, Room};
 #[cfg(test)]
 mod tests;
 
-/// Guest memory as a driver's port. An access of another kind answers `NoSuch`; a mark changes nothing. All of memory is
-/// there from the start, so no access takes from the credit.
+/// Guest memory as a driver's port. An access of another kind answers `NoSuch`; a mark changes nothing. Its credit is the
+/// spare pages of its memory, so reserve pages for the accesses to come.
 #[derive(Drop)]
 pub struct MemoryPort {
     pub memory: GuestMem,
 }
 
 impl Port for MemoryPort {
-    ghost use Rattle.std.specs.Prelude.{◌≡◌, ◌-◌, ◌^◌};
+    ghost use Rattle.std.specs.Prelude.{◌≡◌};
     ghost use Rattle.memory_port.specs.MemoryTable.{MemoryStep};
 
-    ghost step = { λ p a answer room room2 p2. MemoryStep p.memory a answer room room2 p2.memory };
+    ghost step = { λ p a answer room room2 p2. MemoryStep p.memory.bytes a answer room room2 p2.memory.bytes };
 
     ghost marking = { λ p p2. p2.memory ≡ p.memory };
 
-    ghost credit = { λ _. 2 ^ 32 - 1 };
+    ghost credit = { λ p. p.memory.spare };
 
     fn access(&mut self, a: &Access<'_>, room: &mut Room) -> Answer {
         access(&mut self.memory, a, room)

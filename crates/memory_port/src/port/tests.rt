@@ -10,6 +10,7 @@ fn memory_is_put_got_swapped_and_zeroed(rt: HostRuntime) -> Result<(), Fail> {
     let mut port = MemoryPort {
         memory: GuestMem::new(rt.alloc(), 32)?,
     };
+    port.memory.reserve(rt.alloc(), 6)?;
     let mut room = Room::new();
     let bytes = [1u8, 2, 3, 4, 5, 6, 7, 8];
     let put = Access::Put {
