@@ -8,7 +8,9 @@ use Rattle.guest_mem.specs.Memory.{part, put_at, Apart, IsByteList}
 use Rattle.guest_mem.proofs.Parts.{part-put_at_same_length, part-put_at_apart}
 use Rattle.guest_mem.proofs.ByteLists.{little_number-lt, IsByteList-part}
 use Rattle.vq_common.specs.declared.descriptor.Descriptor.{Descriptor}
+use Rattle.vq_common.specs.declared.packed_descriptor.PackedDescriptor.{PackedDescriptor}
 use Rattle.vq_common.specs.Descriptor.{descriptor_in, descriptor_bytes, descriptor_at}
+use Rattle.vq_common.specs.PackedDescriptor.{packed_descriptor_in, packed_descriptor_bytes, packed_descriptor_at}
 
 -- the fields of a descriptor fit their widths
 pub record Fits (d : Descriptor) : Type 0 where
@@ -60,3 +62,33 @@ descriptor_at-put mem table n d fits inside =
 pub descriptor_at-put_apart : (mem : List ℕ) (a : ℕ) (xs : List ℕ) (table n : ℕ) → a + length xs ≤ length mem → Apart a (length xs) (table + 16 * n) 16
     → descriptor_at (put_at mem a xs) table n ≡ descriptor_at mem table n
 descriptor_at-put_apart mem a xs table n inside apart = ap descriptor_in (part-put_at_apart mem a xs (table + 16 * n) 16 inside apart)
+
+-- the fields of a packed descriptor fit their widths
+pub record FitsPacked (d : PackedDescriptor) : Type 0 where
+  pub addr : d.addr < 2 ^ 64
+  pub len : d.len < 2 ^ 32
+  pub id : d.id < 2 ^ 16
+  pub flags : d.flags < 2 ^ 16
+
+-- a packed descriptor has 16 bytes
+pub length-packed_descriptor_bytes : (d : PackedDescriptor) → length (packed_descriptor_bytes d) ≡ 16
+length-packed_descriptor_bytes d = refl
+
+-- the bytes of a packed descriptor give the descriptor
+pub packed_descriptor_in-packed_descriptor_bytes : (d : PackedDescriptor) → FitsPacked d → packed_descriptor_in (packed_descriptor_bytes d) ≡ d
+packed_descriptor_in-packed_descriptor_bytes d f =
+    let as_split : Descriptor = record { addr = d.addr; len = d.len; flags = d.id; next = d.flags } in
+    ap (λ (e : Descriptor). record { addr = e.addr; len = e.len; id = e.flags; flags = e.next })
+    (descriptor_in-descriptor_bytes as_split (record { addr = f.addr; len = f.len; flags = f.id; next = f.flags }))
+
+-- a packed descriptor that was put at a place is read there
+pub packed_descriptor_at-put : (mem : List ℕ) (table n : ℕ) (d : PackedDescriptor) → FitsPacked d → table + 16 * n + 16 ≤ length mem
+    → packed_descriptor_at (put_at mem (table + 16 * n) (packed_descriptor_bytes d)) table n ≡ d
+packed_descriptor_at-put mem table n d fits inside =
+    ap packed_descriptor_in (part-put_at_same_length mem (table + 16 * n) (packed_descriptor_bytes d) 16 (length-packed_descriptor_bytes d) (omega arith))
+    ∙ packed_descriptor_in-packed_descriptor_bytes d fits
+
+-- a write apart from a packed descriptor leaves it
+pub packed_descriptor_at-put_apart : (mem : List ℕ) (a : ℕ) (xs : List ℕ) (table n : ℕ) → a + length xs ≤ length mem → Apart a (length xs) (table + 16 * n) 16
+    → packed_descriptor_at (put_at mem a xs) table n ≡ packed_descriptor_at mem table n
+packed_descriptor_at-put_apart mem a xs table n inside apart = ap packed_descriptor_in (part-put_at_apart mem a xs (table + 16 * n) 16 inside apart)

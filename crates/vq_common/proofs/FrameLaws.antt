@@ -6,7 +6,8 @@ use Rattle.guest_mem.specs.Memory.{part, put_at, Apart}
 use Rattle.guest_mem.proofs.Parts.{length-put_at, part-put_at_apart}
 use Rattle.vq_common.specs.declared.descriptor.Descriptor.{Descriptor}
 use Rattle.vq_common.specs.Descriptor.{descriptor_at, and_following, has_next, chain_from}
-use Rattle.vq_common.specs.Table.{packed_table, packed_piece_in, pieces_if_direct, split_table, table_pieces, is_table}
+use Rattle.vq_common.specs.PackedDescriptor.{packed_descriptor_in, packed_piece_of}
+use Rattle.vq_common.specs.Table.{packed_table, pieces_if_direct, split_table, table_pieces, is_table}
 use Rattle.vq_common.proofs.DescriptorLaws.{descriptor_at-put_apart}
 
 -- a place of a table that lies apart lies apart
@@ -45,8 +46,8 @@ packed_table-put_apart zero mem a xs table inside apart = refl
 packed_table-put_apart (suc count) mem a xs table inside apart =
     let first : Apart a (length xs) table 16 = Apart-part a (length xs) table (16 * suc count) table 16 (omega arith) (omega arith) apart in
     let others : Apart a (length xs) (table + 16) (16 * count) = Apart-part a (length xs) table (16 * suc count) (table + 16) (16 * count) (omega arith) (omega arith) apart in
-    ap (λ bytes. packed_piece_in bytes ∷ packed_table count (put_at mem a xs) (table + 16)) (part-put_at_apart mem a xs table 16 inside first)
-    ∙ ap (λ ps. packed_piece_in (part mem table 16) ∷ ps) (packed_table-put_apart count mem a xs (table + 16) inside others)
+    ap (λ bytes. packed_piece_of (packed_descriptor_in bytes) ∷ packed_table count (put_at mem a xs) (table + 16)) (part-put_at_apart mem a xs table 16 inside first)
+    ∙ ap (λ ps. packed_piece_of (packed_descriptor_in (part mem table 16)) ∷ ps) (packed_table-put_apart count mem a xs (table + 16) inside others)
 
 table_same : (split : Bool) (mem : List ℕ) (a : ℕ) (xs : List ℕ) (addr len : ℕ) → a + length xs ≤ length mem → Apart a (length xs) addr len
     → (if split then split_table (put_at mem a xs) addr len else Some (packed_table (len / 16) (put_at mem a xs) addr))

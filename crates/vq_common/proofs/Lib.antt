@@ -1,7 +1,14 @@
 pub mod CutLaws
 pub mod DescriptorLaws
 pub mod FrameLaws
+pub mod OverLaws
+pub mod PagesLaws
+pub mod PartialLaws
 pub mod PieceLaws
+pub mod PositionLaws
+pub mod PostLaws
 pub mod QueueLaws
+pub mod Results
 pub mod RuleFacts
 pub mod TableLaws
+pub mod WalkedLaws

@@ -1,16 +1,16 @@
 -- What pieces read and leave.
-use Rattle.std.proofs.Common.{◌≡◌, ℕ, ◌+◌, ◌≤◌, List, [], ◌∷◌, ◌++◌, length, take, drop, Bool, true, false, refl, sym, ◌∙◌, ap, arith, append_assoc, length-append, length-take}
+use Rattle.std.proofs.Common.{◌≡◌, ℕ, suc, ◌+◌, ◌-◌, ◌<◌, ◌≤◌, List, [], ◌∷◌, ◌++◌, length, get_or, take, drop, Bool, true, false, refl, sym, ◌∙◌, ap, arith, append_assoc, length-append, length-take}
 use Rattle.std.specs.Prelude.{if◌then◌else◌}
 use Rattle.std.specs.List.{All}
 use Rattle.std.proofs.lemmas.Grind.{common_steps}
-use Rattle.std.proofs.lemmas.List.{drop-drop}
+use Rattle.std.proofs.lemmas.List.{drop-drop, drop_more}
 use Rattle.std.proofs.lemmas.List.Elements.{All-head, All-tail}
 use Rattle.guest_mem.specs.Memory.{part, put_at, Apart}
 use Rattle.guest_mem.proofs.Parts.{length-part, length-put_at, part-put_at_apart}
 use Rattle.guest_mem.proofs.Puts.{put_at-nil}
 use Rattle.guest_mem.proofs.Ranges.{Apart-inside}
 use Rattle.vq_common.specs.declared.chain.Piece.{Piece}
-use Rattle.vq_common.specs.Piece.{length_of_all, readable, readable_len, room, scatter}
+use Rattle.vq_common.specs.Piece.{length_of_all, piece_at, pieces_from, readable, readable_len, room, scatter}
 use Rattle.vq_common.proofs.RuleFacts.{IsInside}
 
 -- a writable piece lies apart from n bytes from address a on
@@ -123,3 +123,13 @@ part-scatter mem (p ∷ ps) bytes a n inside apart =
     part_by_test p.write mem p ps bytes a n
     (λ e. part-scatter (put_at mem p.addr (take p.len bytes)) ps (drop p.len bytes) a n (rw long rest) others ∙ write_apart mem p bytes a n here (away e))
     (part-scatter mem ps bytes a n rest others)
+
+-- there are as many pieces as lengths
+pub length-pieces_from : (addr readable : ℕ) (lengths : List ℕ) → length (pieces_from addr readable lengths) ≡ length lengths
+length-pieces_from addr readable [] = refl
+length-pieces_from addr readable (len ∷ rest) = ap suc (length-pieces_from (addr + len) (readable - 1) rest)
+
+-- the i-th piece, and then the others
+pub pieces_from-next : (addr readable : ℕ) (lengths : List ℕ) (i : ℕ) → i < length lengths
+    → pieces_from addr readable (drop i lengths) ≡ piece_at addr readable (get_or lengths i 0) ∷ pieces_from (addr + get_or lengths i 0) (readable - 1) (drop (i + 1) lengths)
+pieces_from-next addr readable lengths i less = ap (pieces_from addr readable) (drop_more lengths i 0 less)

@@ -2,7 +2,7 @@
 use Rattle.std.proofs.Common.{◌≡◌, ℕ, ◌+◌, ◌≤◌, List, [], ◌∷◌, ◌++◌, length, Bool, true, false, IsTrue, refl, ap, arith}
 use Rattle.std.specs.Prelude.{◌&&◌, nat_le, if◌then◌else◌}
 use Rattle.std.specs.List.{All, list_all}
-use Rattle.std.proofs.lemmas.Bool.Decides.{nat_tests}
+use Rattle.std.proofs.lemmas.Bool.{and_parts, le-leb, leb-true}
 use Rattle.std.proofs.lemmas.List.Elements.{All-nil, All-cons, All-head, All-tail, All-weaker}
 use Rattle.vq_common.specs.declared.chain.Piece.{Piece}
 use Rattle.vq_common.specs.Piece.{is_piece, is_readable_first, keeps_rules, length_of_all, readable_len, room}
@@ -25,33 +25,28 @@ pub record KeepsRules (memory : ℕ) (ps : List Piece) : Type 0 where
   pub total : length_of_all ps ≤ 8192
   pub order : IsTrue (is_readable_first ps)
 
--- both tests hold where their conjunction does, and the other way round
-and_parts : (a b : Bool) → IsTrue (a && b) → IsTrue a × IsTrue b
-and_parts true b both = (refl, both)
-and_parts false b both = absurd (cc)
+-- the rules on the pieces that are left, behind pieces of `total` bytes of which the last one was writable or not
+abbrev pub rules_left : ℕ → ℕ → Bool → List Piece → Bool
+rules_left memory total writable ps =
+    list_all (is_piece memory) ps && nat_le (total + length_of_all ps) 8192 && (if writable then list_all (λ q. q.write) ps else is_readable_first ps)
 
+-- both tests hold where each does
 both_parts : (a b : Bool) → IsTrue a → IsTrue b → IsTrue (a && b)
 both_parts true b one two = two
 both_parts false b one two = one
-
-le_fact : (a b : ℕ) → IsTrue (nat_le a b) → a ≤ b
-le_fact a b test = grind (arith, nat_tests)
-
-le_test : (a b : ℕ) → a ≤ b → IsTrue (nat_le a b)
-le_test a b le = grind (arith, nat_tests)
 
 -- the test on one piece
 pub piece_facts : (memory : ℕ) (p : Piece) → IsTrue (is_piece memory p) → IsPiece memory p
 piece_facts memory p test =
     let (sizes, inside) = and_parts (nat_le 1 p.len && nat_le p.len 4096) (nat_le (p.addr + p.len) memory) test in
     let (some, few) = and_parts (nat_le 1 p.len) (nat_le p.len 4096) sizes in
-    record { some = le_fact 1 p.len some; few = le_fact p.len 4096 few; inside = le_fact (p.addr + p.len) memory inside }
+    record { some = leb-true 1 p.len some; few = leb-true p.len 4096 few; inside = leb-true (p.addr + p.len) memory inside }
 
 pub piece_test : (memory : ℕ) (p : Piece) → IsPiece memory p → IsTrue (is_piece memory p)
 piece_test memory p facts =
     both_parts (nat_le 1 p.len && nat_le p.len 4096) (nat_le (p.addr + p.len) memory)
-    (both_parts (nat_le 1 p.len) (nat_le p.len 4096) (le_test 1 p.len facts.some) (le_test p.len 4096 facts.few))
-    (le_test (p.addr + p.len) memory facts.inside)
+    (both_parts (nat_le 1 p.len) (nat_le p.len 4096) (le-leb 1 p.len facts.some) (le-leb p.len 4096 facts.few))
+    (le-leb (p.addr + p.len) memory facts.inside)
 
 -- the test on each piece
 pub pieces_facts : (memory : ℕ) (ps : List Piece) → IsTrue (list_all (is_piece memory) ps) → All (IsPiece memory) ps
@@ -75,20 +70,20 @@ rules_facts memory ps test =
     let (two, each) = and_parts (nat_le 1 (length ps) && nat_le (length ps) 8) (list_all (is_piece memory) ps) three in
     let (some, few) = and_parts (nat_le 1 (length ps)) (nat_le (length ps) 8) two in
     record {
-      some = le_fact 1 (length ps) some;
-      few = le_fact (length ps) 8 few;
+      some = leb-true 1 (length ps) some;
+      few = leb-true (length ps) 8 few;
       each = pieces_facts memory ps each;
-      total = le_fact (length_of_all ps) 8192 total;
+      total = leb-true (length_of_all ps) 8192 total;
       order = order;
     }
 
 -- and back
 pub rules_test : (memory : ℕ) (ps : List Piece) → KeepsRules memory ps → IsTrue (keeps_rules memory ps)
 rules_test memory ps facts =
-    let two : IsTrue (nat_le 1 (length ps) && nat_le (length ps) 8) = both_parts (nat_le 1 (length ps)) (nat_le (length ps) 8) (le_test 1 (length ps) facts.some) (le_test (length ps) 8 facts.few) in
+    let two : IsTrue (nat_le 1 (length ps) && nat_le (length ps) 8) = both_parts (nat_le 1 (length ps)) (nat_le (length ps) 8) (le-leb 1 (length ps) facts.some) (le-leb (length ps) 8 facts.few) in
     let three : IsTrue (nat_le 1 (length ps) && nat_le (length ps) 8 && list_all (is_piece memory) ps) = both_parts (nat_le 1 (length ps) && nat_le (length ps) 8) (list_all (is_piece memory) ps) two (pieces_test memory ps facts.each) in
     both_parts (nat_le 1 (length ps) && nat_le (length ps) 8 && list_all (is_piece memory) ps && nat_le (length_of_all ps) 8192) (is_readable_first ps)
-    (both_parts (nat_le 1 (length ps) && nat_le (length ps) 8 && list_all (is_piece memory) ps) (nat_le (length_of_all ps) 8192) three (le_test (length_of_all ps) 8192 facts.total))
+    (both_parts (nat_le 1 (length ps) && nat_le (length ps) 8 && list_all (is_piece memory) ps) (nat_le (length_of_all ps) 8192) three (le-leb (length_of_all ps) 8192 facts.total))
     facts.order
 
 -- pieces that keep the rules lie inside memory

@@ -1,4 +1,4 @@
-use Rattle.std.specs.Prelude.{◌≡◌, ℕ, ◌≤◌, List, Bool, IsTrue, Option, Some, None}
+use Rattle.std.specs.Prelude.{◌≡◌, ℕ, ◌≤◌, List, Bool, IsTrue, Option, Some, None, if◌then◌else◌}
 use Rattle.arrayvec.specs.ArrayVec.{ArrayVec}
 use Rattle.vq_common.specs.declared.chain.Piece.{Piece}
 use Rattle.vq_common.specs.declared.chain.Chain.{Chain}
@@ -29,6 +29,11 @@ abbrev pub walked : Take → Walked
 walked take.Empty = Empty
 walked take.Bad = Bad
 walked (take.Front c) = Front (chain_value c)
+
+-- what is shown of a chain with these pieces: they keep the rules, or the chain is malformed
+abbrev pub chain_if_valid : ℕ → ℕ → ℕ → Option (List Piece) → Walked
+chain_if_valid memory id slots None = Bad
+chain_if_valid memory id slots (Some ps) = if keeps_rules memory ps then Front (record { id = id; slots = slots; pieces = ps }) else Bad
 
 -- the list of pieces in an answer
 abbrev pub pieces_in : Option (ArrayVec Piece) → Option (List Piece)

@@ -35,6 +35,10 @@ is_write flags = bit_and flags 2 == 2
 abbrev pub is_indirect : ℕ → Bool
 is_indirect flags = bit_and flags 4 == 4
 
+-- the flags that a driver gives a descriptor: NEXT where another one follows, WRITE where the device writes
+abbrev pub flags_of : Bool → Bool → ℕ
+flags_of follows write = (if follows then 1 else 0) + (if write then 2 else 0)
+
 -- the piece that a descriptor names
 abbrev pub piece_of : Descriptor → Piece
 piece_of d = record { addr = d.addr; len = d.len; write = is_write d.flags }

@@ -2,6 +2,11 @@ pub mod Buffer
 pub mod Chain
 pub mod Descriptor
 pub mod Map
+pub mod PackedDescriptor
+pub mod Pages
+pub mod Partial
 pub mod Piece
+pub mod Position
 pub mod Queue
 pub mod Table
+pub mod Walk

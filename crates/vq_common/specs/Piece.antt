@@ -1,4 +1,4 @@
-use Rattle.std.specs.Prelude.{◌≡◌, ℕ, zero, suc, ◌+◌, ◌&&◌, nat_le, List, [], ◌∷◌, ◌++◌, length, take, drop, Bool, true, if◌then◌else◌}
+use Rattle.std.specs.Prelude.{◌≡◌, ℕ, zero, suc, ◌+◌, ◌-◌, ◌==◌, ◌&&◌, nat_le, List, [], ◌∷◌, ◌++◌, length, take, drop, Bool, true, if◌then◌else◌}
 use Rattle.std.specs.List.{list_all}
 use Rattle.guest_mem.specs.Memory.{part, put_at}
 use Rattle.vq_common.specs.declared.chain.Piece.{Piece}
@@ -6,6 +6,15 @@ use Rattle.vq_common.specs.declared.chain.Piece.{Piece}
 -- a piece has 1 to 4,096 bytes and lies inside a memory of this length
 abbrev pub is_piece : ℕ → Piece → Bool
 is_piece memory p = nat_le 1 p.len && nat_le p.len 4096 && nat_le (p.addr + p.len) memory
+
+-- the first of pieces that begin at an address, `readable` of which are readable; it has `len` bytes
+abbrev pub piece_at : ℕ → ℕ → ℕ → Piece
+piece_at addr readable len = record { addr = addr; len = len; write = readable == 0 }
+
+-- pieces of these lengths, one after the other from an address on, the first `readable` of them readable
+abbrev pub pieces_from : ℕ → ℕ → List ℕ → List Piece
+pieces_from addr readable [] = []
+pieces_from addr readable (len ∷ rest) = piece_at addr readable len ∷ pieces_from (addr + len) (readable - 1) rest
 
 -- no readable piece follows a writable one
 abbrev pub is_readable_first : List Piece → Bool

@@ -1,7 +1,7 @@
 use Rattle.std.specs.Prelude.{◌≡◌, ℕ, ◌+◌, ◌-◌, ◌<◌, ◌==◌, ◌||◌, List, [], ◌∷◌, Bool, true, false, Option, Some, None, length, nat_lt, if◌then◌else◌}
 use Rattle.vt_types.specs.Access.{AccessValue}
 use Rattle.vt_types.specs.Operation.{PostedBuffer}
-use Rattle.vt_types.specs.Program.{Program, Mark, End, do_all}
+use Rattle.vt_types.specs.Program.{Program, Mark, End, do_all, cost_of_all}
 use Rattle.vq_common.specs.declared.chain.RingCfg.{RingCfg}
 use Rattle.vq_common.specs.declared.driver_end.Reaped.{Reaped}
 use Rattle.vq_common.specs.Map.{IsQueueBlock, driver_area, device_area}
@@ -39,8 +39,8 @@ pub record Given : Type 0 where
 pub record KeepsRing (before after : DeviceQueue) : Type 0 where
   pub cfg : after.cfg ≡ before.cfg
 
--- a buffer that was posted and not yet reaped: its tag, its id (packed), its descriptors with the head first (split), its
--- slots, and its readable bytes
+-- a buffer that was posted and not yet reaped: its tag, its id (split: its head), its descriptors with the head first (a
+-- packed ring has its id alone here), its slots, and its readable bytes
 pub record Unreaped : Type 0 where
   pub tag : ℕ
   pub id : ℕ
@@ -49,7 +49,7 @@ pub record Unreaped : Type 0 where
   pub readable : ℕ
 
 -- a driver's record of a queue: the next available and the next used index, or position with its wrap counter, and the
--- unreaped buffers in the order of posting
+-- unreaped buffers by rising id
 pub record DriverQueue : Type 0 where
   pub cfg : RingCfg
   pub base : ℕ
@@ -84,6 +84,26 @@ slots_of_all (u ∷ us) = u.slots + slots_of_all us
 abbrev pub free_slots : DriverQueue → ℕ
 free_slots q = q.cfg.size - slots_of_all q.unreaped
 
+-- no buffer is in the list
+abbrev pub is_empty : List Unreaped → Bool
+is_empty [] = true
+is_empty (u ∷ us) = false
+
+-- a buffer joins those by rising id
+abbrev pub with_buffer : Unreaped → List Unreaped → List Unreaped
+with_buffer u [] = u ∷ []
+with_buffer u (v ∷ vs) = if nat_lt u.id v.id then u ∷ v ∷ vs else v ∷ with_buffer u vs
+
+-- the buffer with this id
+abbrev pub unreaped_with : ℕ → List Unreaped → Option Unreaped
+unreaped_with id [] = None
+unreaped_with id (u ∷ us) = if u.id == id then Some u else unreaped_with id us
+
+-- the buffers without that one
+abbrev pub without : ℕ → List Unreaped → List Unreaped
+without id [] = []
+without id (u ∷ us) = if u.id == id then us else u ∷ without id us
+
 -- an unreaped buffer has this tag
 abbrev pub holds_tag : ℕ → List Unreaped → Bool
 holds_tag tag [] = false
@@ -113,6 +133,19 @@ post_program accesses posted q b =
 abbrev pub GREATEST_COST_OF_POST : ℕ
 GREATEST_COST_OF_POST = 23
 
--- what reaping may cost
+-- what posting costs: nothing where the buffer's slots exceed the free ones
+abbrev pub cost_of_post : (DriverQueue → PostedBuffer → List AccessValue) → DriverQueue → PostedBuffer → ℕ
+cost_of_post accesses q b = if nat_lt (free_slots q) (slots_of b) then 0 else cost_of_all (accesses q b)
+
+-- what asking for the next signal costs
+abbrev pub cost_of_asking : DriverQueue → ℕ
+cost_of_asking q = if q.cfg.event_idx then 1 else 0
+
+-- what reaping may cost: nothing where no buffer is unreaped
 abbrev pub cost_of_reap : DriverQueue → ℕ
-cost_of_reap q = if q.cfg.event_idx then 1 else 0
+cost_of_reap q = if is_empty q.unreaped then 0 else cost_of_asking q
+
+-- what a reap cost that answered this
+abbrev pub cost_of_reaped : DriverQueue → Option ReapedValue → ℕ
+cost_of_reaped q None = 0
+cost_of_reaped q (Some r) = cost_of_asking q

@@ -1,10 +1,10 @@
-use Rattle.std.specs.Prelude.{ℕ, zero, suc, ◌+◌, ◌/◌, ◌%◌, ◌==◌, ◌&&◌, not, nat_le, nat_lt, List, [], ◌∷◌, map, length, drop, Bool, Option, Some, None, if◌then◌else◌}
+use Rattle.std.specs.Prelude.{ℕ, zero, suc, ◌+◌, ◌/◌, ◌%◌, ◌==◌, ◌&&◌, ◌++◌, not, nat_le, nat_lt, List, [], ◌∷◌, map, length, Bool, Option, Some, None, if◌then◌else◌}
 use Rattle.std.specs.List.{list_all}
-use Rattle.byteorder.specs.Endian.{little_number}
 use Rattle.guest_mem.specs.Memory.{part}
 use Rattle.vq_common.specs.declared.descriptor.Descriptor.{Descriptor}
 use Rattle.vq_common.specs.declared.chain.Piece.{Piece}
-use Rattle.vq_common.specs.Descriptor.{chain_from, is_indirect, is_write, piece_of}
+use Rattle.vq_common.specs.Descriptor.{chain_from, is_indirect, piece_of}
+use Rattle.vq_common.specs.PackedDescriptor.{packed_descriptor_in, packed_piece_of}
 
 -- an indirect table has 1 to 8 whole descriptors, no more than the queue has, and lies inside memory
 -- (VIRTIO 1.2, 2.7.5.3; the limit of 8 is our own)
@@ -21,16 +21,21 @@ pieces_if_direct (Some ds) = if list_all (λ (d : Descriptor). not (is_indirect 
 abbrev pub split_table : List ℕ → ℕ → ℕ → Option (List Piece)
 split_table mem addr len = pieces_if_direct (chain_from (len / 16) mem addr (len / 16) 0)
 
--- a packed descriptor names its piece in the first 12 bytes, and WRITE stands in the last two (VIRTIO 1.2, 2.8.7)
-abbrev pub packed_piece_in : List ℕ → Piece
-packed_piece_in bytes = record { addr = little_number 8 bytes; len = little_number 4 (drop 8 bytes); write = is_write (little_number 2 (drop 14 bytes)) }
-
--- a packed table has its pieces in order; no flag but WRITE is looked at
+-- a packed table has its pieces in order; no flag but WRITE is looked at (VIRTIO 1.2, 2.8.7)
 abbrev pub packed_table : ℕ → List ℕ → ℕ → List Piece
 packed_table zero mem addr = []
-packed_table (suc count) mem addr = packed_piece_in (part mem addr 16) ∷ packed_table count mem (addr + 16)
+packed_table (suc count) mem addr = packed_piece_of (packed_descriptor_in (part mem addr 16)) ∷ packed_table count mem (addr + 16)
 
--- the pieces of an indirect table by itself
+-- the pieces of an indirect table
 abbrev pub table_pieces : List ℕ → ℕ → ℕ → ℕ → Bool → Option (List Piece)
 table_pieces mem addr len size split =
     if is_table (length mem) addr len size then (if split then split_table mem addr len else Some (packed_table (len / 16) mem addr)) else None
+
+-- pieces, and behind them those of a table, where these are at most eight together
+abbrev pub pieces_with : List Piece → Option (List Piece) → Option (List Piece)
+pieces_with found None = None
+pieces_with found (Some more) = if nat_le (length found + length more) 8 then Some (found ++ more) else None
+
+-- the pieces, where they were added
+abbrev pub pieces_if : Bool → List Piece → Option (List Piece)
+pieces_if added ps = if added then Some ps else None

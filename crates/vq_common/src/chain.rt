@@ -1,7 +1,8 @@
 //! Pieces, chains and a ring's configuration.
 
-ghost use Rattle.std.specs.Prelude.{◌≡◌, ◌+◌, ◌<◌, ◌≤◌, ◌^◌, ◌++◌, IsTrue, length, min, take};
-ghost use Rattle.guest_mem.specs.Memory.{part, put_at};
+ghost use Rattle.std.specs.Prelude.{◌≡◌, ◌+◌, ◌<◌, ◌≤◌, ◌^◌, IsTrue, length, min, take};
+ghost use Rattle.guest_mem.specs.Memory.{put_at};
+ghost use Rattle.vq_common.specs.Pages.{PAGES_OF_PUT, PAGES_OF_SCATTER};
 ghost use Rattle.vq_common.specs.Piece.{keeps_rules, readable, readable_len, room, scatter};
 
 use arrayvec::ArrayVec;
@@ -44,24 +45,14 @@ pub enum Take {
     Bad,
 }
 
-/// Adds `len` bytes of memory from `addr` on to a room.
-fn read_piece(mem: &GuestMem, addr: u64, len: u32, room: &mut Room)
-    requires small { len ≤ 4096 }
-    requires inside { addr + len ≤ length mem.now }
-    requires fits { length room.old.items + len ≤ 8192 }
-    ensures { room.new.items ≡ room.old.items ++ part mem.now addr len }
-{
-    let mut bytes = [0u8; 4096];
-    let bytes = &mut bytes[..len as usize];
-    let _inside = mem.read(addr, bytes);
-    let _fits = room.try_extend_from_slice(bytes);
-}
-
 /// Writes the first bytes, at most `len`, over memory from `addr` on, and answers how many they are.
 fn write_piece(mem: &mut GuestMem, addr: u64, len: u32, bytes: &[u8]) -> usize
-    requires { addr + len ≤ length mem.old }
+    requires small { len ≤ 4096 }
+    requires inside { addr + len ≤ length mem.old.bytes }
+    requires pages { PAGES_OF_PUT ≤ mem.old.spare }
     ensures count { result ≡ min len (length bytes.now) }
-    ensures memory { mem.new ≡ put_at mem.old addr (take len bytes.now) }
+    ensures bytes { mem.new.bytes ≡ put_at mem.old.bytes addr (take len bytes.now) }
+    ensures pages { mem.old.spare ≤ mem.new.spare + PAGES_OF_PUT }
 {
     let count = bytes.len().min(len as usize);
     let _inside = mem.write(addr, &bytes[..count]);
@@ -95,21 +86,24 @@ impl Chain {
 
     /// Fills a room with the bytes of the readable pieces, one after the other.
     pub fn gather(&self, mem: &GuestMem, room: &mut Room)
-        requires { IsTrue (keeps_rules (length mem.now) self.now.pieces.items) }
-        ensures { room.new.items ≡ readable mem.now self.now.pieces.items }
+        requires { IsTrue (keeps_rules (length mem.now.bytes) self.now.pieces.items) }
+        ensures { room.new.items ≡ readable mem.now.bytes self.now.pieces.items }
     {
         room.clear();
         'readable: for piece in self.pieces.as_slice() {
             if !piece.write {
-                read_piece(mem, piece.addr, piece.len, room);
+                let _inside = mem.read_onto(piece.addr, piece.len as usize, room);
             }
         }
     }
 
-    /// Writes bytes over the writable pieces in order, as many as there are and as there is room for.
+    /// Writes bytes over the writable pieces in order, as many as there are and as there is room for. It makes at most
+    /// `PAGES_OF_SCATTER` pages of memory.
     pub fn scatter(&self, mem: &mut GuestMem, bytes: &[u8])
-        requires { IsTrue (keeps_rules (length mem.old) self.now.pieces.items) }
-        ensures { mem.new ≡ scatter mem.old self.now.pieces.items bytes.now }
+        requires rules { IsTrue (keeps_rules (length mem.old.bytes) self.now.pieces.items) }
+        requires pages { PAGES_OF_SCATTER ≤ mem.old.spare }
+        ensures bytes { mem.new.bytes ≡ scatter mem.old.bytes self.now.pieces.items bytes.now }
+        ensures pages { mem.old.spare ≤ mem.new.spare + PAGES_OF_SCATTER }
     {
         let mut done = 0;
         'writable: for piece in self.pieces.as_slice() {

@@ -1,12 +1,15 @@
 //! Descriptors of a split ring (VIRTIO 1.2, 2.7.5).
 
 ghost use Rattle.std.specs.Prelude.{⊤, ◌≡◌, ◌+◌, ◌*◌, ◌≤◌, [], ◌∷◌, Option, Some, None, IfSome, IsSome, ◌↔◌, codes, length};
-ghost use Rattle.vq_common.specs.Descriptor.{descriptor_at, descriptor_bytes, has_next, is_write, is_indirect, piece_of};
+ghost use Rattle.guest_mem.specs.Memory.{part};
+ghost use Rattle.vq_common.specs.Descriptor.{descriptor_at, descriptor_bytes, flags_of, has_next, is_write, is_indirect, piece_of};
 
+use crate::area::bytes_at;
 use crate::chain::Piece;
+use crate::rules::is_inside;
 use bitflags::{Flag, Flags, bitflag_items};
 use byteorder::{ByteOrder, LittleEndian};
-use guest_mem::{GuestMem, Outside};
+use guest_mem::GuestMem;
 
 /// A descriptor: `len` bytes of guest memory from `addr` on, its flags, and the place of the next descriptor of its
 /// chain (VIRTIO 1.2, 2.7.5).
@@ -52,15 +55,25 @@ impl Flags for DescriptorFlags {
     }
 }
 
-/// The address of a place of a table. None where it is past the end of memory.
-pub fn place_address(mem: &GuestMem, table: u64, place: u16) -> Option<u64>
-    ensures inside { IsSome result ↔ (table + 16 * place ≤ length mem.now) }
-    ensures value { IfSome result (λ addr. addr ≡ table + 16 * place) }
+impl DescriptorFlags {
+    /// The flags that a driver gives a descriptor: NEXT where another one follows, and WRITE where the device writes.
+    pub fn of(follows: bool, write: bool) -> DescriptorFlags
+        ensures { result.0 ≡ flags_of follows write }
+    {
+        let next = if follows { DescriptorFlags::NEXT.0 } else { 0 };
+        let write = if write { DescriptorFlags::WRITE.0 } else { 0 };
+        DescriptorFlags(next | write)
+    }
+}
+
+/// The 16 bytes of a place of a table. None exactly where they are not inside memory.
+pub fn place_bytes(mem: &GuestMem, table: u64, place: u16) -> Option<[u8; 16]>
+    ensures inside { IsSome result ↔ (table + 16 * place + 16 ≤ length mem.now.bytes) }
+    ensures value { IfSome result (λ bytes. bytes ≡ part mem.now.bytes (table + 16 * place) 16) }
 {
-    let len = mem.len();
     let offset = 16 * place as u64;
-    if offset <= len && table <= len - offset {
-        Some(table + offset)
+    if is_inside(mem.len(), table, offset + 16) {
+        Some(bytes_at(mem, table, offset))
     } else {
         None
     }
@@ -69,20 +82,16 @@ pub fn place_address(mem: &GuestMem, table: u64, place: u16) -> Option<u64>
 impl Descriptor {
     /// The descriptor at a place of a table. None exactly where its 16 bytes are not inside memory.
     pub fn read(mem: &GuestMem, table: u64, place: u16) -> Option<Descriptor>
-        ensures inside { IsSome result ↔ (table + 16 * place + 16 ≤ length mem.now) }
-        ensures value { IfSome result (λ d. d ≡ descriptor_at mem.now table place) }
+        ensures inside { IsSome result ↔ (table + 16 * place + 16 ≤ length mem.now.bytes) }
+        ensures value { IfSome result (λ d. d ≡ descriptor_at mem.now.bytes table place) }
     {
-        let addr = place_address(mem, table, place)?;
-        let mut room = [0u8; 16];
-        match mem.read(addr, &mut room) {
-            Ok(()) => Some(Descriptor {
-                addr: LittleEndian::read_u64(&room),
-                len: LittleEndian::read_u32(&room[8..]),
-                flags: LittleEndian::read_u16(&room[12..]),
-                next: LittleEndian::read_u16(&room[14..]),
-            }),
-            Err(Outside) => None,
-        }
+        let bytes = place_bytes(mem, table, place)?;
+        Some(Descriptor {
+            addr: LittleEndian::read_u64(&bytes),
+            len: LittleEndian::read_u32(&bytes[8..]),
+            flags: LittleEndian::read_u16(&bytes[12..]),
+            next: LittleEndian::read_u16(&bytes[14..]),
+        })
     }
 
     /// The 16 bytes of the descriptor.

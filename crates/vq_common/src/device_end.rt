@@ -1,8 +1,9 @@
 //! The device's end of a queue.
 
-ghost use Rattle.std.specs.Prelude.{◌≡◌, ℕ, ◌<◌, ◌≤◌, List, Bool, IsTrue, length};
+ghost use Rattle.std.specs.Prelude.{◌≡◌, ℕ, ◌+◌, ◌≤◌, List, Bool, IsTrue, length};
 ghost use Rattle.vq_common.specs.Chain.{ChainValue, Walked, Front, TakesBy, UndoesTake, IsShown, chain_value, walked};
 ghost use Rattle.vq_common.specs.declared.chain.RingCfg.{RingCfg};
+ghost use Rattle.vq_common.specs.Pages.{PAGES_OF_GIVE};
 ghost use Rattle.vq_common.specs.Queue.{DeviceQueue, Given, IsDeviceQueue, KeepsRing, is_ring_size, new_device_queue};
 
 use crate::chain::{Chain, RingCfg, Take};
@@ -36,18 +37,21 @@ pub trait DeviceEnd: Sized {
 
     /// Takes the next chain. Empty and Bad change nothing.
     fn take(&mut self, mem: &GuestMem) -> Take
-        ensures takes { TakesBy walk taken mem.now (queue self.old) (walked result) (queue self.new) }
+        ensures takes { TakesBy walk taken mem.now.bytes (queue self.old) (walked result) (queue self.new) }
         ensures counts { IsDeviceQueue positions (queue self.old) }
         ensures ring { KeepsRing (queue self.old) (queue self.new) };
 
     /// Gives a chain back, in any order: writes the used element and then the index, and answers whether to signal.
-    /// Memory is compared once both are written: in which order they are written isn't claimed.
+    /// Memory is compared once both are written: in which order they are written isn't claimed. It makes at most
+    /// `PAGES_OF_GIVE` pages of memory.
     fn give(&mut self, mem: &mut GuestMem, chain: &Chain, len: u32) -> bool
-        requires areas { IsTrue (areas_inside (length mem.old) (queue self.old).cfg) }
+        requires areas { IsTrue (areas_inside (length mem.old.bytes) (queue self.old).cfg) }
         requires slots { chain.now.slots ≤ (queue self.old).cfg.size }
-        ensures gives { given mem.old (queue self.old) (chain_value chain.now) len ≡ record { memory = mem.new; queue = queue self.new; signals = result } }
+        requires pages { PAGES_OF_GIVE ≤ mem.old.spare }
+        ensures gives { given mem.old.bytes (queue self.old) (chain_value chain.now) len ≡ record { memory = mem.new.bytes; queue = queue self.new; signals = result } }
         ensures ring { KeepsRing (queue self.old) (queue self.new) }
-        ensures memory { length mem.new ≡ length mem.old };
+        ensures memory { length mem.new.bytes ≡ length mem.old.bytes }
+        ensures pages { mem.old.spare ≤ mem.new.spare + PAGES_OF_GIVE };
 
     /// Undoes the last take, where that was the last call and answered this chain.
     fn put_back(&mut self, chain: &Chain)

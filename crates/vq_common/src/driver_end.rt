@@ -5,7 +5,7 @@ ghost use Rattle.vt_types.specs.Operation.{PostedBuffer, posted_buffer};
 ghost use Rattle.vt_types.specs.Program.{Program, Gives, cost_of_all};
 ghost use Rattle.vt_types.specs.Access.{AccessValue};
 ghost use Rattle.vq_common.specs.Buffer.{IsPostable};
-ghost use Rattle.vq_common.specs.Queue.{DriverQueue, ReapedValue, IsPlaced, KeepsBlock, GREATEST_COST_OF_POST, new_driver_queue, free_slots, slots_of, holds_tag, post_program, cost_of_reap, reaped_value, is_ring_size};
+ghost use Rattle.vq_common.specs.Queue.{DriverQueue, ReapedValue, IsPlaced, KeepsBlock, GREATEST_COST_OF_POST, new_driver_queue, free_slots, slots_of, holds_tag, post_program, cost_of_post, cost_of_reap, cost_of_reaped, reaped_value, is_ring_size};
 
 use crate::chain::RingCfg;
 use std::alloc::Global;
@@ -20,6 +20,18 @@ pub struct Full;
 pub struct Reaped {
     pub tag: u16,
     pub len: u32,
+}
+
+/// The slots that a buffer takes of a ring: one for an indirect table, else one for each piece.
+pub fn slots_of(buf: &PostBuf) -> u16
+    ensures value { result ≡ slots_of (posted_buffer buf.now) }
+    ensures few { result ≤ 8 }
+{
+    if buf.indirect {
+        1
+    } else {
+        buf.cuts.len() as u16
+    }
 }
 
 /// A driver's end of a queue of either kind, over any port.
@@ -69,26 +81,28 @@ pub trait DriverEnd: Sized {
     fn has_tag(&self, tag: u16) -> bool
         ensures { result ≡ holds_tag tag (queue self.now).unreaped };
 
-    /// Posts a buffer. `Full` comes exactly where its slots exceed the free ones; then no access is made.
+    /// Posts a buffer. `Full` comes exactly where its slots exceed the free ones; then no access is made and no credit
+    /// is needed.
     fn post<P: Port>(&mut self, port: &mut P, buf: &PostBuf) -> Result<(), Full>
         requires started { 0 < (queue self.old).cfg.size }
         requires postable { IsPostable (posted_buffer buf.now) }
         requires tag { holds_tag buf.now.tag (queue self.old).unreaped ≡ false }
         requires table { IsTrue buf.now.indirect → length buf.now.cuts.items ≤ (queue self.old).cfg.size }
-        requires credit { cost_of_all (post_accesses (queue self.old) (posted_buffer buf.now)) ≤ P.credit port.old }
+        requires credit { cost_of_post post_accesses (queue self.old) (posted_buffer buf.now) ≤ P.credit port.old }
         ensures gives { Gives P.step P.marking (post_program post_accesses posted (queue self.old) (posted_buffer buf.now)) port.old (is_ok result, queue self.new) port.new }
         ensures full { is_ok result ≡ nat_le (slots_of (posted_buffer buf.now)) (free_slots (queue self.old)) }
-        ensures credit { P.credit port.old ≤ P.credit port.new + cost_of_all (post_accesses (queue self.old) (posted_buffer buf.now)) }
+        ensures credit { P.credit port.old ≤ P.credit port.new + cost_of_post post_accesses (queue self.old) (posted_buffer buf.now) }
         ensures order { in_order (queue self.old) }
         ensures block { KeepsBlock (queue self.old) (queue self.new) }
         ensures greatest { greatest self.new ≡ greatest self.old };
 
-    /// Reaps the next used buffer; its written bytes are in the room. None where nothing counts as used.
+    /// Reaps the next used buffer; its written bytes are in the room. None where nothing counts as used. Credit is
+    /// needed where a buffer can be reaped and the reap asks for the next signal.
     fn reap<P: Port>(&mut self, port: &mut P, room: &mut Room) -> Option<Reaped>
         requires started { 0 < (queue self.old).cfg.size }
         requires credit { cost_of_reap (queue self.old) ≤ P.credit port.old }
         ensures gives { Gives P.step P.marking (reap_program (queue self.old)) port.old (reaped_value result room.new.items, queue self.new) port.new }
-        ensures credit { P.credit port.old ≤ P.credit port.new + cost_of_reap (queue self.old) }
+        ensures credit { P.credit port.old ≤ P.credit port.new + cost_of_reaped (queue self.old) (reaped_value result room.new.items) }
         ensures block { KeepsBlock (queue self.old) (queue self.new) }
         ensures greatest { greatest self.new ≡ greatest self.old };
 

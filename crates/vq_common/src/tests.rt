@@ -1,12 +1,16 @@
 ghost use Rattle.std.specs.Prelude.{◌≤◌, length};
 
-use crate::{Chain, Descriptor, Piece, are_pieces_valid, indirect_chain};
+use crate::area::{bytes_at, le16_at, put, put_le16};
+use crate::{
+    Chain, Descriptor, DescriptorFlags, PackedDescriptor, Piece, add_table, are_pieces_valid,
+    indirect_chain, is_ring_size, slots_of,
+};
 use arrayvec::ArrayVec;
 use guest_mem::{GuestMem, Memory};
 use std::alloc::Global;
 use std::process::Abort;
 use std::test::Fail;
-use vt_types::Room;
+use vt_types::{Bytes, PostBuf, Room};
 
 const TABLE: u64 = 0x100;
 
@@ -40,6 +44,7 @@ fn memory_with(alloc: Global, table: &[Descriptor]) -> Result<GuestMem, Memory>
 {
     let mut mem = GuestMem::new(alloc, 4096)?;
     for (place, descriptor) in table.iter().enumerate() {
+        mem.reserve(alloc, 2)?;
         let _ = mem.write(TABLE + 16 * place as u64, &descriptor.to_bytes());
     }
     Ok(mem)
@@ -129,6 +134,7 @@ fn rules_on_pieces(rt: HostRuntime) {
 #[test]
 fn chains_read_and_write(rt: HostRuntime) -> Result<(), Fail> {
     let mut mem = GuestMem::new(rt.alloc(), 64)?;
+    mem.reserve(rt.alloc(), 17)?;
     assert_eq!(rt; mem.write(0, b"abcdef"), Ok(()));
     let mut pieces = ArrayVec::new();
     pieces.push(readable(4, 2));
@@ -163,5 +169,99 @@ fn descriptors_read_back(rt: HostRuntime) -> Result<(), Fail> {
     assert_eq!(rt; read.piece(), readable(0x0102_0304_0506_0708, 0x1112_1314));
     assert_eq!(rt; Descriptor::read(&mem, 0, 256), None);
     assert_eq!(rt; Descriptor::read(&mem, u64::MAX, u16::MAX), None);
+    Ok(())
+}
+
+#[test]
+fn packed_descriptors_read_back(rt: HostRuntime) -> Result<(), Fail> {
+    let written = PackedDescriptor {
+        addr: 0x0102_0304_0506_0708,
+        len: 0x1112_1314,
+        id: 0x2122,
+        flags: 0x8082,
+    };
+    let mut mem = GuestMem::new(rt.alloc(), 64)?;
+    mem.reserve(rt.alloc(), 2)?;
+    assert_eq!(rt; mem.write(32, &written.to_bytes()), Ok(()));
+    let read = PackedDescriptor::read(&mem, 16, 1).ok_or("inside")?;
+    assert_eq!(rt; read, written);
+    assert_eq!(rt; read.piece(), writable(0x0102_0304_0506_0708, 0x1112_1314));
+    assert_eq!(rt; PackedDescriptor::read(&mem, 16, 3), None);
+    Ok(())
+}
+
+/// Adds a table of `count` descriptors behind `before` pieces.
+fn try_adding(rt: &impl Abort, mem: &GuestMem, before: usize, count: u32, split: bool, want: bool)
+    requires behind { before ≤ 8 }
+    requires few { count ≤ 8 }
+{
+    let mut pieces: ArrayVec<Piece, 8> = ArrayVec::new();
+    for _ in 0..before {
+        assert!(rt; pieces.try_push(readable(0, 1)).is_ok());
+    }
+    let added = add_table(mem, TABLE, 16 * count, 8, split, &mut pieces);
+    assert_eq!(rt; added, want, "{count} behind {before}, {split}");
+    assert!(rt; !added || pieces.len() == before + count as usize);
+}
+
+#[test]
+fn tables_behind_pieces(rt: HostRuntime) -> Result<(), Fail> {
+    let two = memory_with(
+        rt.alloc(),
+        &[descriptor(0x800, 4, 1, 1), descriptor(0x900, 8, 2, 2)],
+    )?;
+    for split in [false, true] {
+        try_adding(&rt, &two, 0, 2, split, true);
+        try_adding(&rt, &two, 6, 2, split, true);
+        try_adding(&rt, &two, 7, 2, split, false);
+    }
+    Ok(())
+}
+
+#[test]
+fn numbers_in_areas(rt: HostRuntime) -> Result<(), Fail> {
+    let mut mem = GuestMem::new(rt.alloc(), 64)?;
+    mem.reserve(rt.alloc(), 4)?;
+    put_le16(&mut mem, 8, 2, 0x0102);
+    assert!(rt; mem.len() == 64);
+    put(&mut mem, 8, 4, b"xy");
+    assert!(rt; mem.len() == 64);
+    assert_eq!(rt; le16_at(&mem, 8, 2), 0x0102);
+    assert_eq!(rt; bytes_at::<4>(&mem, 8, 2), *b"\x02\x01xy");
+    Ok(())
+}
+
+#[test]
+fn sizes_slots_and_flags(rt: HostRuntime) -> Result<(), Fail> {
+    for (size, want) in [
+        (0, false),
+        (1, true),
+        (3, false),
+        (1024, true),
+        (2048, false),
+    ] {
+        assert_eq!(rt; is_ring_size(size), want, "{size}");
+    }
+    for (follows, write, want) in [
+        (false, false, 0),
+        (true, false, 1),
+        (false, true, 2),
+        (true, true, 3),
+    ] {
+        assert_eq!(rt; DescriptorFlags::of(follows, write).0, want);
+    }
+    let mut cuts = ArrayVec::new();
+    cuts.push(4);
+    cuts.push(4);
+    let mut buf = PostBuf {
+        tag: 0,
+        indirect: false,
+        readable: Bytes::new(rt.alloc()),
+        cuts,
+        nread: 0,
+    };
+    assert_eq!(rt; slots_of(&buf), 2);
+    buf.indirect = true;
+    assert_eq!(rt; slots_of(&buf), 1);
     Ok(())
 }

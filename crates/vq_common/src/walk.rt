@@ -1,0 +1,55 @@
+//! Walks along linked descriptors (VIRTIO 1.2, 2.7.5): those of a ring, and those of an indirect table.
+
+ghost use Rattle.std.specs.Prelude.{◌+◌, ◌*◌, ◌≤◌, length};
+ghost use Rattle.vq_common.specs.Descriptor.{descriptor_at};
+ghost use Rattle.vq_common.specs.Walk.{Steps};
+
+use crate::chain::Piece;
+use crate::descriptor::Descriptor;
+use arrayvec::ArrayVec;
+use guest_mem::GuestMem;
+
+/// What one step of a walk comes to.
+#[derive(Clone, Copy, Debug, PartialEq, Eq)]
+pub enum WalkStep {
+    /// The descriptor's piece was added, and the chain goes on at this place.
+    Next(u16),
+    /// The descriptor's piece was added, and the chain ends.
+    End,
+    /// The descriptor names a table. No piece was added.
+    Table(Descriptor),
+    /// There is no such place, or no room for another piece. No piece was added.
+    Bad,
+}
+
+impl WalkStep {
+    /// Takes one step of a walk: reads the descriptor at a place of a table of `count` descriptors, and adds the piece that
+    /// it names unless it names a table.
+    pub fn take(
+        mem: &GuestMem,
+        table: u64,
+        count: u16,
+        place: u16,
+        pieces: &mut ArrayVec<Piece, 8>,
+    ) -> WalkStep
+        requires { table + 16 * count ≤ length mem.now.bytes }
+        ensures { Steps count place (descriptor_at mem.now.bytes table place) pieces.old.items result pieces.new.items }
+    {
+        if place >= count {
+            return WalkStep::Bad;
+        }
+        let descriptor = match Descriptor::read(mem, table, place) {
+            Some(descriptor) => descriptor,
+            None => return WalkStep::Bad,
+        };
+        if descriptor.is_indirect() {
+            WalkStep::Table(descriptor)
+        } else if pieces.try_push(descriptor.piece()).is_err() {
+            WalkStep::Bad
+        } else if descriptor.has_next() {
+            WalkStep::Next(descriptor.next)
+        } else {
+            WalkStep::End
+        }
+    }
+}
