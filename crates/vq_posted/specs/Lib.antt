@@ -1,0 +1,5 @@
+pub mod Free
+pub mod Members
+pub mod Order
+pub mod Table
+pub mod Reap
