@@ -2,8 +2,7 @@
 use Rattle.std.proofs.Common.{ℕ, ◌+◌, ◌*◌, ◌%◌, ◌<◌, ◌≤◌, IsTrue, arith}
 use Rattle.std.specs.Prelude.{nat_le, ◌&&◌}
 use Rattle.std.proofs.Math.Nat.{mod-lt}
-use Rattle.std.proofs.lemmas.Bool.{and_parts}
-use Rattle.std.proofs.lemmas.Bool.Decides.{nat_tests}
+use Rattle.std.proofs.lemmas.Bool.{and_parts, leb-true}
 use Rattle.vq_common.specs.declared.chain.RingCfg.{RingCfg}
 use Rattle.vq_common.specs.Queue.{DeviceQueue}
 use Rattle.vq_split_dev.specs.Walk.{split_areas_inside}
@@ -14,15 +13,12 @@ pub record HasAreas (memory : ℕ) (c : RingCfg) : Type 0 where
   pub driver : c.driver + (6 + 2 * c.size) ≤ memory
   pub device : c.device + (6 + 8 * c.size) ≤ memory
 
-le_from_test : (a b : ℕ) → IsTrue (nat_le a b) → a ≤ b
-le_from_test a b test = grind (arith, nat_tests)
-
 -- they do where the test says so
 pub HasAreas-from_test : (memory : ℕ) (c : RingCfg) → IsTrue (split_areas_inside memory c) → HasAreas memory c
 HasAreas-from_test memory c test =
     let (others, device) = and_parts (nat_le (c.desc + 16 * c.size) memory && nat_le (c.driver + (6 + 2 * c.size)) memory) (nat_le (c.device + (6 + 8 * c.size)) memory) test in
     let (desc, driver) = and_parts (nat_le (c.desc + 16 * c.size) memory) (nat_le (c.driver + (6 + 2 * c.size)) memory) others in
-    record { desc = le_from_test _ _ desc; driver = le_from_test _ _ driver; device = le_from_test _ _ device }
+    record { desc = leb-true _ _ desc; driver = leb-true _ _ driver; device = leb-true _ _ device }
 
 -- where the next used element stands
 abbrev pub element_place : DeviceQueue → ℕ

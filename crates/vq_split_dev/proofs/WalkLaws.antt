@@ -10,12 +10,12 @@ use Rattle.guest_mem.proofs.Ranges.{Apart-inside}
 use Rattle.guest_mem.proofs.Fields.{le16_at-put_apart}
 use Rattle.vq_common.specs.declared.chain.RingCfg.{RingCfg}
 use Rattle.vq_common.specs.declared.descriptor.Descriptor.{Descriptor}
-use Rattle.vq_common.specs.Chain.{Walked, Empty, Bad}
+use Rattle.vq_common.specs.Chain.{Walked, Empty, Bad, chain_if_valid}
 use Rattle.vq_common.specs.Descriptor.{chain_from, has_next, is_indirect, piece_of}
 use Rattle.vq_common.specs.Queue.{DeviceQueue}
 use Rattle.vq_common.specs.Table.{table_pieces}
 use Rattle.vq_common.proofs.FrameLaws.{Apart-part, chain_from-put_apart, table_pieces-put_apart}
-use Rattle.vq_split_dev.specs.Walk.{split_walk, split_areas_inside, waiting_heads, next_head, chain_of, chain_if_valid, chain_pieces}
+use Rattle.vq_split_dev.specs.Walk.{split_walk, split_areas_inside, waiting_heads, next_head, chain_of, chain_pieces}
 
 -- n bytes from address a on are apart from the table that a descriptor names, where tables are in use and it names one
 abbrev pub IsApartFromTable : ℕ → ℕ → RingCfg → Descriptor → Type 0

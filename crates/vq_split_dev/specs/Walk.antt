@@ -1,11 +1,10 @@
-use Rattle.std.specs.Prelude.{ℕ, ◌+◌, ◌-◌, ◌*◌, ◌%◌, ◌^◌, ◌==◌, ◌&&◌, not, nat_le, nat_lt, List, [], ◌∷◌, length, Bool, Option, Some, None, option_map, true, if◌then◌else◌}
+use Rattle.std.specs.Prelude.{◌≡◌, ℕ, ◌+◌, ◌-◌, ◌*◌, ◌%◌, ◌^◌, ◌==◌, ◌&&◌, not, nat_le, nat_lt, List, [], ◌∷◌, length, Bool, Option, Some, None, option_map, true, if◌then◌else◌}
 use Rattle.guest_mem.specs.Memory.{le16_at}
 use Rattle.vq_common.specs.declared.chain.Piece.{Piece}
 use Rattle.vq_common.specs.declared.chain.RingCfg.{RingCfg}
 use Rattle.vq_common.specs.declared.descriptor.Descriptor.{Descriptor}
-use Rattle.vq_common.specs.Chain.{ChainValue, Walked, Empty, Bad, Front}
+use Rattle.vq_common.specs.Chain.{ChainValue, Walked, Empty, Bad, chain_if_valid}
 use Rattle.vq_common.specs.Descriptor.{chain_from, has_next, is_indirect, piece_of}
-use Rattle.vq_common.specs.Piece.{keeps_rules}
 use Rattle.vq_common.specs.Queue.{DeviceQueue}
 use Rattle.vq_common.specs.Table.{table_pieces}
 
@@ -22,15 +21,19 @@ chain_pieces mem c (d ∷ ds) =
     then (if c.indirect && not (has_next d.flags) then table_pieces mem d.addr d.len c.size true else None)
     else option_map (λ ps. piece_of d ∷ ps) (chain_pieces mem c ds)
 
--- a chain with these pieces, where they keep the rules
-abbrev pub chain_if_valid : ℕ → ℕ → ℕ → Option (List Piece) → Walked
-chain_if_valid memory head slots None = Bad
-chain_if_valid memory head slots (Some ps) = if keeps_rules memory ps then Front (record { id = head; slots = slots; pieces = ps }) else Bad
-
 -- the chain that these descriptors make
 abbrev pub chain_of : List ℕ → RingCfg → ℕ → Option (List Descriptor) → Walked
 chain_of mem c head None = Bad
 chain_of mem c head (Some ds) = chain_if_valid (length mem) head (length ds) (chain_pieces mem c ds)
+
+-- what the ring shows at a head: the chain that begins there
+abbrev pub chain_shown : List ℕ → RingCfg → ℕ → Walked
+chain_shown mem c head = chain_of mem c head (chain_from c.size mem c.desc c.size head)
+
+-- a walk from a head comes to so many descriptors with these pieces, or to something malformed
+abbrev pub WalksTo : List ℕ → RingCfg → ℕ → Option ℕ → List Piece → Type 0
+WalksTo mem c head None ps = chain_shown mem c head ≡ Bad
+WalksTo mem c head (Some slots) ps = chain_shown mem c head ≡ chain_if_valid (length mem) head slots (Some ps)
 
 -- the heads in the available ring that were not taken yet
 abbrev pub waiting_heads : List ℕ → DeviceQueue → ℕ
@@ -48,7 +51,7 @@ split_walk mem q =
     then Empty
     else (if nat_lt q.cfg.size (waiting_heads mem q)
     then Bad
-    else chain_of mem q.cfg (next_head mem q) (chain_from q.cfg.size mem q.cfg.desc q.cfg.size (next_head mem q))))
+    else chain_shown mem q.cfg (next_head mem q)))
     else Bad
 
 -- once a chain is taken

@@ -1,16 +1,9 @@
 //! The three areas of a split ring (VIRTIO 1.2, 2.7).
 
-ghost use Rattle.std.specs.Prelude.{◌≡◌, ◌+◌, nat_le};
+ghost use Rattle.std.specs.Prelude.{◌≡◌};
 ghost use Rattle.vq_split_dev.specs.Walk.{split_areas_inside};
 
-use vq_common::RingCfg;
-
-/// Whether `len` bytes from `addr` on lie inside a memory of `memory` bytes.
-fn is_inside(memory: u64, addr: u64, len: u64) -> bool
-    ensures { result ≡ nat_le (addr + len) memory }
-{
-    len <= memory && addr <= memory - len
-}
+use vq_common::{RingCfg, is_inside};
 
 /// Whether the ring's areas lie inside a memory of `memory` bytes.
 pub fn areas_inside(memory: u64, cfg: &RingCfg) -> bool

@@ -7,11 +7,11 @@ ghost use Rattle.vq_split_dev.specs.Walk.{split_walk, split_areas_inside, next_h
 ghost use Rattle.vq_split_dev.specs.Give.{split_signals};
 
 use crate::areas::areas_inside;
-use crate::bytes::{put, read16};
 use crate::walk::chain_at;
 use byteorder::{ByteOrder, LittleEndian};
 use guest_mem::GuestMem;
 use std::marker::Model;
+use vq_common::area::{le16_at, put, put_le16};
 use vq_common::{AvailableFlags, Chain, DeviceEnd, RingCfg, Take};
 
 #[cfg(test)]
@@ -40,24 +40,24 @@ impl Model for SplitDevice {
 impl SplitDevice {
     /// The heads in the available ring that were not taken yet (VIRTIO 1.2, 2.7.13).
     fn waiting(&self, mem: &GuestMem) -> u16
-        requires { IsTrue (split_areas_inside (length mem.now) self.now.cfg) }
-        ensures { result ≡ waiting_heads mem.now self.now }
+        requires { IsTrue (split_areas_inside (length mem.now.bytes) self.now.cfg) }
+        ensures { result ≡ waiting_heads mem.now.bytes self.now }
     {
-        read16(mem, self.cfg.driver, 2).wrapping_sub(self.taken)
+        le16_at(mem, self.cfg.driver, 2).wrapping_sub(self.taken)
     }
 
     /// The entry of the available ring that is taken next.
     fn next_head(&self, mem: &GuestMem) -> u16
-        requires { IsTrue (split_areas_inside (length mem.now) self.now.cfg) }
-        ensures { result ≡ next_head mem.now self.now }
+        requires { IsTrue (split_areas_inside (length mem.now.bytes) self.now.cfg) }
+        ensures { result ≡ next_head mem.now.bytes self.now }
     {
         let place = self.taken % self.cfg.size;
-        read16(mem, self.cfg.driver, 4 + 2 * place as u64)
+        le16_at(mem, self.cfg.driver, 4 + 2 * place as u64)
     }
 
     /// What the ring shows next.
     fn front(&self, mem: &GuestMem) -> Take
-        ensures { walked result ≡ split_walk mem.now self.now }
+        ensures { walked result ≡ split_walk mem.now.bytes self.now }
     {
         if !areas_inside(mem.len(), &self.cfg) {
             return Take::Bad;
@@ -74,13 +74,13 @@ impl SplitDevice {
 
     /// Whether a used buffer is to be signalled, once the used index is written (VIRTIO 1.2, 2.7.7).
     fn signals(&self, mem: &GuestMem) -> bool
-        requires { IsTrue (split_areas_inside (length mem.now) self.now.cfg) }
-        ensures { result ≡ split_signals mem.now self.now }
+        requires { IsTrue (split_areas_inside (length mem.now.bytes) self.now.cfg) }
+        ensures { result ≡ split_signals mem.now.bytes self.now }
     {
         if self.cfg.event_idx {
-            read16(mem, self.cfg.driver, 4 + 2 * self.cfg.size as u64) == self.used
+            le16_at(mem, self.cfg.driver, 4 + 2 * self.cfg.size as u64) == self.used
         } else {
-            read16(mem, self.cfg.driver, 0) & AvailableFlags::NO_INTERRUPT.0
+            le16_at(mem, self.cfg.driver, 0) & AvailableFlags::NO_INTERRUPT.0
                 != AvailableFlags::NO_INTERRUPT.0
         }
     }
@@ -94,15 +94,6 @@ fn used_element(head: u16, len: u32) -> [u8; 8]
     LittleEndian::write_u32(&mut element, head as u32);
     LittleEndian::write_u32(&mut element[4..], len);
     element
-}
-
-/// A used index in two bytes.
-fn index_bytes(index: u16) -> [u8; 2]
-    ensures { result ≡ little_bytes 2 index }
-{
-    let mut bytes = [0u8; 2];
-    LittleEndian::write_u16(&mut bytes, index);
-    bytes
 }
 
 impl DeviceEnd for SplitDevice {
@@ -144,7 +135,7 @@ impl DeviceEnd for SplitDevice {
         let element = used_element(chain.id, len);
         put(mem, self.cfg.device, 4 + 8 * place as u64, &element);
         let next = self.used.wrapping_add(1);
-        put(mem, self.cfg.device, 2, &index_bytes(next));
+        put_le16(mem, self.cfg.device, 2, next);
         let signals = self.signals(mem);
         self.used = next;
         signals

@@ -5,7 +5,6 @@
 #![tactic(auto)]
 
 mod areas;
-mod bytes;
 mod device;
 mod walk;
 

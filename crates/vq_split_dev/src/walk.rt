@@ -1,59 +1,60 @@
 //! The chain that begins at a head.
 
-ghost use Rattle.std.specs.Prelude.{◌≡◌, ◌+◌, ◌*◌, ◌<◌, ◌≤◌, ◌↔◌, [], ◌∷◌, ◌++◌, IsSome, IfSome, option_map, length};
-ghost use Rattle.vq_common.specs.Chain.{walked, pieces_in};
-ghost use Rattle.vq_common.specs.Descriptor.{chain_from, descriptor_at};
-ghost use Rattle.vq_split_dev.specs.Walk.{chain_if_valid, chain_of, chain_pieces};
+ghost use Rattle.std.specs.Prelude.{◌≡◌, ◌+◌, ◌*◌, ◌≤◌, [], ◌∷◌, true, length};
+ghost use Rattle.vq_common.specs.Chain.{walked};
+ghost use Rattle.vq_common.specs.Descriptor.{is_indirect};
+ghost use Rattle.vq_common.specs.Table.{pieces_if, pieces_with};
+ghost use Rattle.vq_split_dev.specs.Walk.{WalksTo, chain_pieces, chain_shown};
 
 use arrayvec::ArrayVec;
 use guest_mem::GuestMem;
-use vq_common::{Chain, Descriptor, Piece, RingCfg, Take, are_pieces_valid, indirect_chain};
+use vq_common::{Chain, Descriptor, Piece, RingCfg, Take, WalkStep, add_table, are_pieces_valid};
 
-/// The descriptor at a place of the descriptor table. None exactly where there is no such place.
-fn descriptor(mem: &GuestMem, cfg: &RingCfg, place: u16) -> Option<Descriptor>
-    requires { cfg.now.desc + 16 * cfg.now.size ≤ length mem.now }
-    ensures place { IsSome result ↔ (place < cfg.now.size) }
-    ensures value { IfSome result (λ d. d ≡ descriptor_at mem.now cfg.now.desc place) }
-{
-    if place < cfg.size {
-        Descriptor::read(mem, cfg.desc, place)
-    } else {
-        None
-    }
-}
-
-/// The pieces that the last descriptor of a chain names: its own, or those of its table.
-fn last_pieces(mem: &GuestMem, cfg: &RingCfg, last: Descriptor) -> Option<ArrayVec<Piece, 8>>
-    ensures { pieces_in result ≡ chain_pieces mem.now cfg.now (last ∷ []) }
-{
-    if !last.is_indirect() {
-        let mut pieces = ArrayVec::new();
-        pieces.push(last.piece());
-        Some(pieces)
-    } else if cfg.indirect && !last.has_next() {
-        indirect_chain(mem, last.addr, last.len, cfg.size, true)
-    } else {
-        None
-    }
-}
-
-/// The chain with these pieces and then the last ones, where together they keep the rules.
-fn join(
+/// Adds the pieces of the table that the last descriptor of a chain names, and answers whether it did. A descriptor with
+/// NEXT names none, and neither does one of a ring without VIRTIO_F_INDIRECT_DESC.
+fn add_last_table(
     mem: &GuestMem,
-    head: u16,
-    slots: u16,
-    mut pieces: ArrayVec<Piece, 8>,
-    last: Option<ArrayVec<Piece, 8>>,
-) -> Take
-    ensures { walked result ≡ chain_if_valid (length mem.now) head slots (option_map (λ ps. pieces.items ++ ps) (pieces_in last)) }
+    cfg: &RingCfg,
+    last: Descriptor,
+    pieces: &mut ArrayVec<Piece, 8>,
+) -> bool
+    requires { is_indirect last.flags ≡ true }
+    ensures { pieces_if result pieces.new.items ≡ pieces_with pieces.old.items (chain_pieces mem.now.bytes cfg.now (last ∷ [])) }
 {
-    let last = match last {
-        Some(last) => last,
-        None => return Take::Bad,
-    };
-    if pieces.try_extend_from_slice(last.as_slice()).is_err() {
-        return Take::Bad;
+    cfg.indirect && !last.has_next() && add_table(mem, last.addr, last.len, cfg.size, true, pieces)
+}
+
+/// Finds the pieces of the chain that begins at a head, and answers how many descriptors of the ring it takes. None
+/// where the chain is malformed; whether its pieces keep the rules isn't tested.
+fn walk(mem: &GuestMem, cfg: &RingCfg, head: u16, pieces: &mut ArrayVec<Piece, 8>) -> Option<u16>
+    requires none { pieces.old.items ≡ [] }
+    requires table { cfg.now.desc + 16 * cfg.now.size ≤ length mem.now.bytes }
+    ensures { WalksTo mem.now.bytes cfg.now head result pieces.new.items }
+{
+    let mut place = head;
+    'descriptors: for index in 0..cfg.size {
+        match WalkStep::take(mem, cfg.desc, cfg.size, place, pieces) {
+            WalkStep::Next(next) => place = next,
+            WalkStep::End => return Some(index + 1),
+            WalkStep::Table(last) => {
+                let added = add_last_table(mem, cfg, last, pieces);
+                return if added { Some(index + 1) } else { None };
+            }
+            WalkStep::Bad => return None,
+        }
     }
+    None
+}
+
+/// What the ring shows at a head that it has: the chain of that head, or something malformed.
+pub fn chain_at(mem: &GuestMem, cfg: &RingCfg, head: u16) -> Take
+    requires { cfg.now.desc + 16 * cfg.now.size ≤ length mem.now.bytes }
+    ensures { walked result ≡ chain_shown mem.now.bytes cfg.now head }
+{
+    let mut pieces = ArrayVec::new();
+    let Some(slots) = walk(mem, cfg, head, &mut pieces) else {
+        return Take::Bad;
+    };
     if are_pieces_valid(mem.len(), pieces.as_slice()) {
         Take::Front(Chain {
             id: head,
@@ -63,27 +64,4 @@ fn join(
     } else {
         Take::Bad
     }
-}
-
-/// What the ring shows at a head that it has: the chain of that head, or something malformed.
-pub fn chain_at(mem: &GuestMem, cfg: &RingCfg, head: u16) -> Take
-    requires { cfg.now.desc + 16 * cfg.now.size ≤ length mem.now }
-    ensures { walked result ≡ chain_of mem.now cfg.now head (chain_from cfg.now.size mem.now cfg.now.desc cfg.now.size head) }
-{
-    let mut pieces = ArrayVec::new();
-    let mut place = head;
-    'descriptors: for index in 0..cfg.size {
-        let next = match descriptor(mem, cfg, place) {
-            Some(next) => next,
-            None => return Take::Bad,
-        };
-        if next.is_indirect() || !next.has_next() {
-            return join(mem, head, index + 1, pieces, last_pieces(mem, cfg, next));
-        }
-        if pieces.try_push(next.piece()).is_err() {
-            return Take::Bad;
-        }
-        place = next.next;
-    }
-    Take::Bad
 }

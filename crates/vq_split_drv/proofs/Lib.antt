@@ -1,7 +1,4 @@
-pub mod Falling
-pub mod Kept
-pub mod Members
+pub mod Buffers
+pub mod Described
 pub mod Posts
-pub mod Puts
 pub mod Reaps
-pub mod Records

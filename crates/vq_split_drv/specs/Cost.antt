@@ -1,19 +1,21 @@
 -- What a post may cost: the law `cost` of `DriverEnd`.
-use Rattle.std.proofs.Common.{◌≡◌, ℕ, zero, suc, ◌+◌, ◌-◌, ◌*◌, ◌≤◌, List, [], ◌∷◌, ◌++◌, Bool, true, false, cond, eqb, ◌%◌, ◌^◌, length, take, drop, refl, ◌∙◌, ap, arith, length-append}
-use Rattle.std.specs.Prelude.{sum}
-use Rattle.std.proofs.lemmas.Bool.{ne_eqb}
-use Rattle.std.proofs.lemmas.Grind.{common_steps}
+use Rattle.std.proofs.Common.{◌≡◌, ℕ, suc, ◌+◌, ◌-◌, ◌*◌, ◌≤◌, List, [], ◌∷◌, ◌++◌, Bool, true, false, cond, ltb, ◌%◌, ◌^◌, length, drop, refl, ◌∙◌, ap, arith, length-append}
 use Rattle.byteorder.specs.Endian.{little_bytes}
-use Rattle.vt_types.specs.Access.{AccessValue, Put, pages_touched}
+use Rattle.vt_types.specs.Access.{AccessValue}
 use Rattle.vt_types.specs.Operation.{PostedBuffer}
 use Rattle.vt_types.specs.Program.{cost_of_all}
 use Rattle.vt_types.proofs.Programs.{cost_of_all-append}
+use Rattle.port_access.specs.Accesses.{data_puts}
+use Rattle.port_access.proofs.Costs.{cost_of_data, cost_of_either, cost_of_two, pages-le-two}
 use Rattle.vq_common.specs.Buffer.{IsPostable}
 use Rattle.vq_common.specs.declared.descriptor.Descriptor.{Descriptor}
 use Rattle.vq_common.specs.Descriptor.{descriptor_bytes}
 use Rattle.vq_common.specs.Map.{data_place, table_place}
-use Rattle.vq_common.specs.Queue.{DriverQueue, GREATEST_COST_OF_POST}
-use Rattle.vq_split_drv.specs.Post.{numbers, head_of, puts_of, descriptors_for, descriptors_of, table_bytes, data_puts, direct_puts, indirect_puts, available_puts, chain_puts, post_puts, split_post_accesses}
+use Rattle.vq_common.specs.Queue.{DriverQueue, GREATEST_COST_OF_POST, cost_of_post, free_slots, slots_of}
+pub use Rattle.vq_common.proofs.PostLaws.{readable-le}
+use Rattle.vq_posted.specs.Free.{head_of, numbers}
+use Rattle.port_access.specs.Accesses.{data_puts}
+use Rattle.vq_split_drv.specs.Post.{puts_of, descriptors_for, descriptors_of, table_bytes, direct_puts, indirect_puts, available_puts, chain_puts, post_puts, split_post_accesses}
 
 -- there are as many descriptors as pieces
 pub length-descriptors_of : (addr readable : ℕ) (lengths places : List ℕ) → length (descriptors_of addr readable lengths places) ≡ length lengths
@@ -26,46 +28,19 @@ pub length-table_bytes : (ds : List Descriptor) → length (table_bytes ds) ≡ 
 length-table_bytes [] = refl
 length-table_bytes (d ∷ ds) = let long : length (descriptor_bytes d) ≡ 16 = refl in omega (arith, length-append (descriptor_bytes d) (table_bytes ds), length-table_bytes ds)
 
--- a buffer has at most 8,192 readable bytes
-pub readable-le : (b : PostedBuffer) → IsPostable b → length b.readable ≤ 8192
-readable-le b h =
-    let readable : length b.readable ≡ sum (take b.readable_pieces b.lengths) = h.readable in
-    let total : sum b.lengths ≤ 8192 = h.total in
-    grind (arith, common_steps)
-
 -- what the parts of a post cost
-pub cost_of_post : (q : DriverQueue) (b : PostedBuffer) (places : List ℕ)
+pub cost_of_parts : (q : DriverQueue) (b : PostedBuffer) (places : List ℕ)
     → cost_of_all (post_puts q b places) ≡ cost_of_all (data_puts (data_place q.base (head_of places)) b.readable) + cost_of_all (chain_puts q b places) + cost_of_all (available_puts q (head_of places))
-cost_of_post q b places =
+cost_of_parts q b places =
     let data1 : List AccessValue = data_puts (data_place q.base (head_of places)) b.readable in
     cost_of_all-append (data1 ++ chain_puts q b places) (available_puts q (head_of places))
     ∙ ap (λ (n : ℕ). n + cost_of_all (available_puts q (head_of places))) (cost_of_all-append data1 (chain_puts q b places))
-
--- bytes touch few pages
-pub pages-le : (addr count : ℕ) → count ≤ 8192 → pages_touched addr count ≤ 3
-pages-le addr zero few = omega arith
-pages-le addr (suc n) few = let some : eqb (suc n) 0 ≡ false = ne_eqb (suc n) 0 (λ e. absurd (omega arith)) in rw some (omega arith)
-
-pub pages-le-two : (addr count : ℕ) → count ≤ 4096 → pages_touched addr count ≤ 2
-pages-le-two addr zero few = omega arith
-pages-le-two addr (suc n) few = let some : eqb (suc n) 0 ≡ false = ne_eqb (suc n) 0 (λ e. absurd (omega arith)) in rw some (omega arith)
-
-cost_of_data : (place : ℕ) (bytes : List ℕ) → length bytes ≤ 8192 → cost_of_all (data_puts place bytes) ≤ 3
-cost_of_data place [] few = omega arith
-cost_of_data place (byte ∷ bytes) few = omega (arith, pages-le place (length (byte ∷ bytes)) few)
 
 cost_of_puts : (table : ℕ) (places : List ℕ) (ds : List Descriptor) → cost_of_all (puts_of table places ds) ≤ 2 * length ds
 cost_of_puts table places [] = omega arith
 cost_of_puts table places (d ∷ ds) =
     let long : length (descriptor_bytes d) ≡ 16 = refl in
     omega (arith, pages-le-two (table + 16 * head_of places) (length (descriptor_bytes d)) (omega arith), cost_of_puts table (drop 1 places) ds)
-
-cost_of_two : (a b : ℕ) (xs ys : List ℕ) → length xs ≤ 4096 → length ys ≤ 4096 → cost_of_all (Put a xs ∷ Put b ys ∷ []) ≤ 4
-cost_of_two a b xs ys few few2 = omega (arith, pages-le-two a (length xs) few, pages-le-two b (length ys) few2)
-
-cost_of_either : (c : Bool) (xs ys : List AccessValue) (n : ℕ) → cost_of_all xs ≤ n → cost_of_all ys ≤ n → cost_of_all (cond c xs ys) ≤ n
-cost_of_either true xs ys n h k = h
-cost_of_either false xs ys n h k = k
 
 -- a post costs no more than the greatest cost
 pub cost : (q : DriverQueue) (b : PostedBuffer) → IsPostable b → cost_of_all (split_post_accesses q b) ≤ GREATEST_COST_OF_POST
@@ -85,4 +60,12 @@ cost q b h =
     in
     let chain : cost_of_all (chain_puts q b places) ≤ 16 = cost_of_either b.indirect (indirect_puts q b head) (direct_puts q b places) 16 indirect direct in
     let available : cost_of_all (available_puts q head) ≤ 4 = cost_of_two _ _ (little_bytes 2 head) (little_bytes 2 ((q.available + 1) % 2 ^ 16)) (omega arith) (omega arith) in
-    omega (arith, cost_of_post q b places, cost_of_data place b.readable (readable-le b h))
+    omega (arith, cost_of_parts q b places, cost_of_data place b.readable (readable-le b h))
+
+either_number : (c : Bool) (a b n : ℕ) → a ≤ n → b ≤ n → cond c a b ≤ n
+either_number true a b n h k = h
+either_number false a b n h k = k
+
+-- also where the ring may be full
+pub cost_or_nothing : (q : DriverQueue) (b : PostedBuffer) → IsPostable b → cost_of_post split_post_accesses q b ≤ GREATEST_COST_OF_POST
+cost_or_nothing q b h = either_number (ltb (free_slots q) (slots_of b)) 0 (cost_of_all (split_post_accesses q b)) GREATEST_COST_OF_POST (omega arith) (cost q b h)

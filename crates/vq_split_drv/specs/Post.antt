@@ -1,49 +1,33 @@
-use Rattle.std.specs.Prelude.{ℕ, zero, suc, ◌+◌, ◌-◌, ◌*◌, ◌%◌, ◌^◌, ◌==◌, not, List, [], ◌∷◌, ◌++◌, length, take, drop, filter, Bool, true, false, if◌then◌else◌}
-use Rattle.std.specs.List.{list_any}
+use Rattle.std.specs.Prelude.{ℕ, ◌+◌, ◌-◌, ◌*◌, ◌%◌, ◌^◌, ◌==◌, List, [], ◌∷◌, ◌++◌, length, take, drop, true, false, Option, Some, None, nat_lt, if◌then◌else◌}
 use Rattle.byteorder.specs.Endian.{little_bytes}
 use Rattle.vt_types.specs.Access.{AccessValue, Put}
 use Rattle.vt_types.specs.Operation.{PostedBuffer}
+use Rattle.port_access.specs.Accesses.{data_puts}
 use Rattle.vq_common.specs.declared.descriptor.Descriptor.{Descriptor}
-use Rattle.vq_common.specs.Descriptor.{descriptor_bytes}
+use Rattle.vq_common.specs.Descriptor.{descriptor_bytes, flags_of}
 use Rattle.vq_common.specs.Map.{driver_area, table_place, data_place}
-use Rattle.vq_common.specs.Queue.{DriverQueue, Unreaped, slots_of}
-
--- the descriptors of all unreaped buffers
-abbrev pub descriptors_in_use : List Unreaped → List ℕ
-descriptors_in_use [] = []
-descriptors_in_use (u ∷ us) = u.descriptors ++ descriptors_in_use us
-
-abbrev pub is_in : ℕ → List ℕ → Bool
-is_in n xs = list_any (λ x. x == n) xs
-
--- the numbers from `from` on, so many of them
-abbrev pub numbers : ℕ → ℕ → List ℕ
-numbers from zero = []
-numbers from (suc count) = from ∷ numbers (from + 1) count
-
--- the free descriptors, rising
-abbrev pub free_descriptors : DriverQueue → List ℕ
-free_descriptors q = filter (λ n. not (is_in n (descriptors_in_use q.unreaped))) (numbers 0 q.cfg.size)
+use Rattle.vq_common.specs.Queue.{DriverQueue, slots_of, with_buffer}
+use Rattle.vq_posted.specs.Free.{free_descriptors, head_of, numbers}
 
 -- the descriptors that a buffer gets: the lowest free ones, rising, the head first
 abbrev pub descriptors_for : DriverQueue → PostedBuffer → List ℕ
-descriptors_for q b = take (slots_of b) (free_descriptors q)
+descriptors_for q b = take (slots_of b) (free_descriptors q.cfg.size q.unreaped)
 
-abbrev pub head_of : List ℕ → ℕ
-head_of [] = 0
-head_of (n ∷ ns) = n
-
--- the flags of a descriptor: NEXT where another one follows, WRITE where the device writes
-abbrev pub flags_of : Bool → Bool → ℕ
-flags_of follows write = (if follows then 1 else 0) + (if write then 2 else 0)
+-- the descriptor of a piece: WRITE where it isn't readable, and NEXT with the place that follows, where one does
+abbrev pub descriptor_of : ℕ → ℕ → ℕ → Option ℕ → Descriptor
+descriptor_of addr readable len None = record { addr = addr; len = len; flags = flags_of false (readable == 0); next = 0 }
+descriptor_of addr readable len (Some next) = record { addr = addr; len = len; flags = flags_of true (readable == 0); next = next }
 
 -- descriptors of pieces that lie one after the other from an address on; the first `readable` of them are readable, and
 -- each but the last names the place that follows
 abbrev pub descriptors_of : ℕ → ℕ → List ℕ → List ℕ → List Descriptor
 descriptors_of addr readable [] places = []
-descriptors_of addr readable (len ∷ []) places = record { addr = addr; len = len; flags = flags_of false (readable == 0); next = 0 } ∷ []
-descriptors_of addr readable (len ∷ more) places =
-    record { addr = addr; len = len; flags = flags_of true (readable == 0); next = head_of places } ∷ descriptors_of (addr + len) (readable - 1) more (drop 1 places)
+descriptors_of addr readable (len ∷ []) places = descriptor_of addr readable len None ∷ []
+descriptors_of addr readable (len ∷ more) places = descriptor_of addr readable len (Some (head_of places)) ∷ descriptors_of (addr + len) (readable - 1) more (drop 1 places)
+
+-- the place that follows a place of a table of `count` places, where one does
+abbrev pub place_after : ℕ → ℕ → Option ℕ
+place_after n count = if nat_lt (n + 1) count then Some (n + 1) else None
 
 -- a put of each descriptor at its place of a table
 abbrev pub puts_of : ℕ → List ℕ → List Descriptor → List AccessValue
@@ -54,11 +38,6 @@ puts_of table places (d ∷ ds) = Put (table + 16 * head_of places) (descriptor_
 abbrev pub table_bytes : List Descriptor → List ℕ
 table_bytes [] = []
 table_bytes (d ∷ ds) = descriptor_bytes d ++ table_bytes ds
-
--- the put of the readable bytes, where there are any
-abbrev pub data_puts : ℕ → List ℕ → List AccessValue
-data_puts place [] = []
-data_puts place (byte ∷ bytes) = Put place (byte ∷ bytes) ∷ []
 
 -- the puts of a buffer's own descriptors
 abbrev pub direct_puts : DriverQueue → PostedBuffer → List ℕ → List AccessValue
@@ -98,5 +77,5 @@ abbrev pub split_posted : DriverQueue → PostedBuffer → DriverQueue
 split_posted q b =
     record q {
       available = (q.available + 1) % 2 ^ 16;
-      unreaped = q.unreaped ++ record { tag = b.tag; id = head_of (descriptors_for q b); descriptors = descriptors_for q b; slots = slots_of b; readable = length b.readable } ∷ [];
+      unreaped = with_buffer (record { tag = b.tag; id = head_of (descriptors_for q b); descriptors = descriptors_for q b; slots = slots_of b; readable = length b.readable }) q.unreaped;
     }

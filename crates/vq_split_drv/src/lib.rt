@@ -1,10 +1,10 @@
 //! A driver's end of a split virtqueue (VIRTIO 1.2, 2.7), over any port.
 #![tactic(auto)]
 
-mod accesses;
-mod descriptors;
 mod driver;
-mod free;
-mod posted;
+mod pieces;
+mod post;
+mod reap;
+mod ring;
 
 pub use driver::SplitDriver;

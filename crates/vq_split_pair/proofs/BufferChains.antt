@@ -12,12 +12,13 @@ use Rattle.vq_common.specs.Queue.{DriverQueue, slots_of}
 use Rattle.vq_common.specs.Table.{is_table, pieces_if_direct, split_table, table_pieces}
 use Rattle.vq_split_dev.specs.Walk.{chain_pieces}
 use Rattle.vq_split_drv.specs.Cost.{length-descriptors_of}
-use Rattle.vq_split_drv.specs.Post.{descriptors_of, numbers}
-use Rattle.vq_split_drv.proofs.Falling.{is_in_numbers, length-numbers}
-use Rattle.vq_split_drv.proofs.Members.{all_from_members}
+use Rattle.vq_split_drv.specs.Post.{descriptors_of}
 use Rattle.vq_split_pair.proofs.Chains.{chain_one, chain_reads}
 use Rattle.vq_split_pair.proofs.Pieces.{pieces_from, chain_pieces_are, table_pieces_are}
 use Rattle.vq_split_pair.proofs.Placed.{AreAt}
+use Rattle.vq_posted.proofs.Members.{all_from_members}
+use Rattle.vq_posted.proofs.Numbers.{is_in_numbers, length-numbers}
+use Rattle.vq_posted.specs.Free.{numbers}
 
 -- the descriptors from a head on are a chain of as many slots as a buffer has, and its pieces are those of the buffer
 pub record IsChain (mem : List ℕ) (q : DriverQueue) (b : PostedBuffer) (head : ℕ) : Type 0 where

@@ -13,10 +13,7 @@ use Rattle.vq_common.specs.Map.{data_place, driver_area, table_place}
 use Rattle.vq_common.specs.Queue.{DriverQueue}
 use Rattle.vq_common.proofs.DescriptorLaws.{Fits, descriptor_at-put, length-descriptor_bytes}
 use Rattle.vq_split_drv.specs.Cost.{length-descriptors_of, length-table_bytes}
-use Rattle.vq_split_drv.specs.Driver.{is_distinct}
-use Rattle.vq_split_drv.specs.Post.{available_puts, descriptors_of, direct_puts, indirect_puts, numbers, table_bytes}
-use Rattle.vq_split_drv.proofs.Falling.{is_in_numbers}
-use Rattle.vq_split_drv.proofs.Members.{all_from_members}
+use Rattle.vq_split_drv.specs.Post.{available_puts, descriptors_of, direct_puts, indirect_puts, table_bytes}
 use Rattle.vq_split_pair.specs.Pair.{IsInMemory}
 use Rattle.vq_split_pair.proofs.BufferChains.{IsChain, direct_chain, indirect_chain, naming}
 use Rattle.vq_split_pair.proofs.Chains.{descriptors_fit}
@@ -24,6 +21,9 @@ use Rattle.vq_split_pair.proofs.Placed.{AreAt, AreAt-same, puts_read, puts_withi
 use Rattle.vq_split_pair.proofs.PostParts.{available_within, size_bounds}
 use Rattle.vq_split_pair.proofs.Tables.{table_reads}
 use Rattle.vq_split_pair.proofs.Written.{IsPutWithin, length-written, part-written, written, written_put}
+use Rattle.vq_posted.proofs.Members.{all_from_members}
+use Rattle.vq_posted.proofs.Numbers.{is_in_numbers}
+use Rattle.vq_posted.specs.Free.{is_distinct, numbers}
 
 -- the block of a queue lies low
 base_low : (q : DriverQueue) (memory : ℕ) → IsInMemory memory q → q.base ≤ 0x5000000

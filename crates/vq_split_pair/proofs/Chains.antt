@@ -5,10 +5,11 @@ use Rattle.std.proofs.lemmas.Bool.{cond-true, lt-ltb}
 use Rattle.std.proofs.lemmas.List.Elements.{All-nil, All-cons, All-head, All-tail}
 use Rattle.std.proofs.lemmas.List.Sums.{sum_by-cons}
 use Rattle.vq_common.specs.declared.descriptor.Descriptor.{Descriptor}
-use Rattle.vq_common.specs.Descriptor.{chain_from, and_following, descriptor_at, has_next}
+use Rattle.vq_common.specs.Descriptor.{chain_from, and_following, descriptor_at, has_next, flags_of}
 use Rattle.vq_common.proofs.DescriptorLaws.{Fits}
-use Rattle.vq_split_drv.specs.Post.{descriptors_of, flags_of, head_of}
+use Rattle.vq_split_drv.specs.Post.{descriptors_of}
 use Rattle.vq_split_pair.proofs.Placed.{AreAt}
+use Rattle.vq_posted.specs.Free.{head_of}
 
 -- no other descriptor follows a last one
 last_flags : (write : Bool) → has_next (flags_of false write) ≡ false

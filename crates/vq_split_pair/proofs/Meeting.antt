@@ -15,9 +15,10 @@ use Rattle.vq_common.specs.Map.{data_place, device_area, driver_area}
 use Rattle.vq_common.specs.Queue.{DeviceQueue, DriverQueue, free_slots, slots_of}
 use Rattle.vq_split_dev.specs.Walk.{chain_pieces, next_head, waiting_heads}
 use Rattle.vq_split_drv.specs.Cost.{readable-le}
-use Rattle.vq_split_drv.specs.Driver.{IsSplitQueue, is_distinct}
-use Rattle.vq_split_drv.specs.Post.{available_puts, chain_puts, data_puts, descriptors_for, direct_puts, indirect_puts, post_puts, split_post_accesses}
-use Rattle.vq_split_drv.proofs.Records.{descriptors_for_below, descriptors_for_distinct, length-descriptors_for-fits, slots_of-some}
+use Rattle.vq_split_drv.specs.Driver.{IsSplitQueue}
+use Rattle.port_access.specs.Accesses.{data_puts}
+use Rattle.vq_split_drv.specs.Post.{available_puts, chain_puts, descriptors_for, direct_puts, indirect_puts, post_puts, split_post_accesses}
+use Rattle.vq_split_drv.proofs.Buffers.{descriptors_for-below, descriptors_for-distinct, length-descriptors_for, slots_of-some}
 use Rattle.memory_port.specs.MemoryTable.{memory_table}
 use Rattle.vq_split_pair.specs.Pair.{HasTakenAll, IsInMemory, ShowsBuffer}
 use Rattle.vq_split_pair.proofs.BufferChains.{IsChain}
@@ -26,6 +27,7 @@ use Rattle.vq_split_pair.proofs.Pieces.{pieces_from, pieces_keep_rules, readable
 use Rattle.vq_split_pair.proofs.PostParts.{IsAvailable, available_read, available_within, data_read, data_within, size_bounds}
 use Rattle.vq_split_pair.proofs.WalkLaws.{areas_fit, one_waits, walk_front}
 use Rattle.vq_split_pair.proofs.Written.{IsPutWithin, IsPutWithin-wider, length-written, part-written, written, written-append}
+use Rattle.vq_posted.specs.Free.{is_distinct}
 
 -- the ring shows a buffer where one more head waits, the descriptors make its chain, and its data is there
 shown : (mem : List ℕ) (q : DriverQueue) (b : PostedBuffer) (head : ℕ) (d : DeviceQueue) → IsInMemory (length mem) q → q.available < 2 ^ 16 → IsPostable b → head < q.cfg.size → IsAvailable mem q head → IsChain mem q b head
@@ -131,4 +133,4 @@ posted_with mem q b d (n ∷ ns) ring wraps postable room table feature many bel
 pub posted_is_shown : (mem : List ℕ) (q : DriverQueue) (b : PostedBuffer) (d : DeviceQueue) → IsInMemory (length mem) q → IsSplitQueue q → IsPostable b → slots_of b ≤ free_slots q
     → (IsTrue b.indirect → length b.lengths ≤ q.cfg.size) → (IsTrue b.indirect → IsTrue q.cfg.indirect) → HasTakenAll q d → ShowsBuffer (after_all memory_table (split_post_accesses q b) mem) d b
 posted_is_shown mem q b d ring is postable room table feature taken =
-    posted_with mem q b d (descriptors_for q b) ring is.available postable (omega arith) table feature (length-descriptors_for-fits q b is room) (descriptors_for_below q b) (descriptors_for_distinct q b) taken
+    posted_with mem q b d (descriptors_for q b) ring is.available postable (omega arith) table feature (length-descriptors_for q b is room) (descriptors_for-below q b) (descriptors_for-distinct q b) taken

@@ -12,12 +12,12 @@ use Rattle.vq_common.specs.declared.chain.Piece.{Piece}
 use Rattle.vq_common.specs.declared.chain.RingCfg.{RingCfg}
 use Rattle.vq_common.specs.declared.descriptor.Descriptor.{Descriptor}
 use Rattle.vq_common.specs.Buffer.{IsPieceLength, IsPostable}
-use Rattle.vq_common.specs.Descriptor.{is_indirect, is_write, piece_of}
+use Rattle.vq_common.specs.Descriptor.{is_indirect, is_write, piece_of, flags_of}
 use Rattle.vq_common.specs.Piece.{is_readable_first, keeps_rules, length_of_all, readable, room}
 use Rattle.vq_common.specs.Table.{pieces_if_direct}
 use Rattle.vq_common.proofs.RuleFacts.{IsPiece, rules_test}
 use Rattle.vq_split_dev.specs.Walk.{chain_pieces}
-use Rattle.vq_split_drv.specs.Post.{descriptors_of, flags_of}
+use Rattle.vq_split_drv.specs.Post.{descriptors_of}
 
 -- pieces that lie one after the other from an address on, the first `count` of them readable
 abbrev pub pieces_from : ℕ → ℕ → List ℕ → List Piece

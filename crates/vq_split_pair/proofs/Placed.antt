@@ -9,10 +9,10 @@ use Rattle.vt_types.specs.Access.{Put}
 use Rattle.vq_common.specs.declared.descriptor.Descriptor.{Descriptor}
 use Rattle.vq_common.specs.Descriptor.{descriptor_at, descriptor_bytes, descriptor_in}
 use Rattle.vq_common.proofs.DescriptorLaws.{Fits, length-descriptor_bytes, descriptor_at-put, descriptor_at-put_apart}
-use Rattle.vq_split_drv.specs.Driver.{is_distinct}
-use Rattle.vq_split_drv.specs.Post.{is_in, puts_of}
-use Rattle.vq_split_drv.proofs.Members.{distinct_parts}
+use Rattle.vq_split_drv.specs.Post.{puts_of}
 use Rattle.vq_split_pair.proofs.Written.{written, written_put, IsPutWithin}
+use Rattle.vq_posted.proofs.Members.{distinct_parts}
+use Rattle.vq_posted.specs.Free.{is_distinct, is_in}
 
 -- these descriptors are read at these places of a table, one after the other
 abbrev pub AreAt : List ℕ → ℕ → List ℕ → List Descriptor → Type 0

@@ -10,7 +10,8 @@ use Rattle.guest_mem.proofs.Parts.{length-put_at, part-put_at_same}
 use Rattle.vt_types.specs.Access.{Put}
 use Rattle.vq_common.specs.Map.{driver_area}
 use Rattle.vq_common.specs.Queue.{DriverQueue, is_ring_size}
-use Rattle.vq_split_drv.specs.Post.{available_puts, data_puts}
+use Rattle.port_access.specs.Accesses.{data_puts}
+use Rattle.vq_split_drv.specs.Post.{available_puts}
 use Rattle.vq_split_pair.specs.Pair.{IsInMemory}
 use Rattle.vq_split_pair.proofs.Written.{IsPutWithin, written, written_put}
 

@@ -8,8 +8,9 @@ use Rattle.vq_common.specs.declared.descriptor.Descriptor.{Descriptor}
 use Rattle.vq_common.specs.Descriptor.{descriptor_bytes, descriptor_in}
 use Rattle.vq_common.proofs.DescriptorLaws.{Fits, length-descriptor_bytes, descriptor_in-descriptor_bytes}
 use Rattle.vq_split_drv.specs.Cost.{length-table_bytes}
-use Rattle.vq_split_drv.specs.Post.{numbers, table_bytes}
+use Rattle.vq_split_drv.specs.Post.{table_bytes}
 use Rattle.vq_split_pair.proofs.Placed.{AreAt}
+use Rattle.vq_posted.specs.Free.{numbers}
 
 -- where a part of memory is joined bytes, its front is the first of them
 part_front : (m : List ℕ) (a j k : ℕ) (xs ys : List ℕ) → length xs ≡ j → part m a (j + k) ≡ xs ++ ys → part m a j ≡ xs

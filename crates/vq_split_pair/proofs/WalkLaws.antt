@@ -5,11 +5,11 @@ use Rattle.std.proofs.lemmas.Bool.{and_from, cond-true, cond-false, le-leb, le-l
 use Rattle.vq_common.specs.declared.chain.Piece.{Piece}
 use Rattle.vq_common.specs.declared.chain.RingCfg.{RingCfg}
 use Rattle.vq_common.specs.declared.descriptor.Descriptor.{Descriptor}
-use Rattle.vq_common.specs.Chain.{Empty, Bad, Front}
+use Rattle.vq_common.specs.Chain.{Empty, Bad, Front, chain_if_valid}
 use Rattle.vq_common.specs.Descriptor.{chain_from}
 use Rattle.vq_common.specs.Piece.{keeps_rules}
 use Rattle.vq_common.specs.Queue.{DeviceQueue}
-use Rattle.vq_split_dev.specs.Walk.{split_walk, split_areas_inside, waiting_heads, next_head, chain_of, chain_pieces, chain_if_valid}
+use Rattle.vq_split_dev.specs.Walk.{split_walk, split_areas_inside, waiting_heads, next_head, chain_of, chain_pieces}
 
 -- one more than was taken is one that waits
 pub one_waits : (n : ℕ) → n < 2 ^ 16 → ((n + 1) % 2 ^ 16 + 2 ^ 16 - n) % 2 ^ 16 ≡ 1

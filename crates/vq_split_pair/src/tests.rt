@@ -21,6 +21,9 @@ use vt_types::{Bytes, Memory, PostBuf, Room};
 /// Where the queue block begins.
 const BASE: u64 = 0x100_0000;
 
+/// The pages of memory that posting a buffer and giving it back may make.
+const PAGES: u32 = 27;
+
 /// A ring of a size in the queue block.
 fn ring(size: u16, event_idx: bool) -> RingCfg
     requires { IsTrue (is_ring_size size) }
@@ -42,7 +45,7 @@ fn ring(size: u16, event_idx: bool) -> RingCfg
 /// A port of so many bytes of guest memory.
 fn port(alloc: Global, len: u64) -> Result<MemoryPort, Memory>
     requires { len ≤ 2 ^ 28 }
-    ensures { IfOk result (λ p. length p.memory ≡ len) }
+    ensures { IfOk result (λ p. length p.memory.bytes ≡ len) }
 {
     Ok(MemoryPort {
         memory: GuestMem::new(alloc, len)?,
@@ -91,13 +94,16 @@ fn posted_buffers_are_shown_in_order(rt: HostRuntime) -> Result<(), Fail> {
     let mut driver = SplitDriver::new(alloc, 4)?;
     driver.start(&ring, BASE);
     let mut port = port(alloc, 2 * BASE)?;
+    port.memory.reserve(alloc, PAGES)?;
     let direct = buffer(alloc, 1, 3, false)?;
     let indirect = buffer(alloc, 2, 2, true)?;
     let last = buffer(alloc, 3, 1, false)?;
     assert!(rt; post(&mut driver, &mut port, &direct).is_ok());
     assert!(rt; !driver.has_tag(2));
+    port.memory.reserve(alloc, PAGES)?;
     assert!(rt; post(&mut driver, &mut port, &indirect).is_ok());
     assert!(rt; !driver.has_tag(3));
+    port.memory.reserve(alloc, PAGES)?;
     assert_eq!(rt; post(&mut driver, &mut port, &last), Err(Full));
 
     let mut device = SplitDevice::new(&ring);
@@ -133,7 +139,8 @@ impl One {
     }
 
     /// Posts, takes, gives back and reaps the buffer. Answers whether the device signals.
-    fn round(&mut self, rt: &impl Abort) -> bool {
+    fn round(&mut self, rt: &impl Abort, alloc: Global) -> Result<bool, Memory> {
+        self.port.memory.reserve(alloc, PAGES)?;
         assert!(rt; !self.driver.has_tag(self.buffer.tag));
         assert!(rt; !self.buffer.indirect);
         let posted = self.driver.post(&mut self.port, &self.buffer);
@@ -142,11 +149,13 @@ impl One {
             panic!(rt; "no chain is shown");
         };
         assert!(rt; chain.slots == 1);
+        self.port.memory.reserve(alloc, PAGES)?;
         let signals = self.device.give(&mut self.port.memory, &chain, 0);
+        self.port.memory.reserve(alloc, PAGES)?;
         let mut room = Room::new();
         let reaped = self.driver.reap(&mut self.port, &mut room);
         assert_eq!(rt; reaped, Some(Reaped { tag: 7, len: 0 }));
-        signals
+        Ok(signals)
     }
 }
 
@@ -155,7 +164,7 @@ impl One {
 fn indices_go_past_65535(rt: HostRuntime) -> Result<(), Fail> {
     let mut one = One::new(rt.alloc())?;
     for round in 0..65_540u32 {
-        assert!(rt; one.round(&rt), "in round {round}");
+        assert!(rt; one.round(&rt, rt.alloc())?, "in round {round}");
     }
     Ok(())
 }

@@ -2,7 +2,7 @@ ghost use Rattle.std.specs.Prelude.{◌≡◌, ◌+◌, ◌≤◌, ◌<◌};
 
 use super::SplitDevice;
 use crate::areas::areas_inside;
-use guest_mem::GuestMem;
+use guest_mem::{GuestMem, Memory};
 use std::alloc::Global;
 use std::process::Abort;
 use std::test::Fail;
@@ -58,7 +58,15 @@ fn cfg(size: u16, indirect: bool, event_idx: bool) -> RingCfg
     }
 }
 
+/// A memory of 8 pages, with room for them and for the pages that a call may make.
+fn memory(alloc: Global) -> Result<GuestMem, Memory> {
+    let mut mem = GuestMem::new(alloc, MEMORY)?;
+    mem.reserve(alloc, 12)?;
+    Ok(mem)
+}
+
 fn put16(rt: &impl Abort, mem: &mut GuestMem, addr: u64, value: u16) {
+    assert!(rt; mem.spare() >= 2);
     let written = mem.write(addr, &value.to_le_bytes());
     assert!(rt; written.is_ok());
 }
@@ -67,6 +75,7 @@ fn put_table(rt: &impl Abort, mem: &mut GuestMem, addr: u64, table: &[Descriptor
     let mut at = addr;
     for d in table {
         let bytes = d.to_bytes();
+        assert!(rt; mem.spare() >= 2);
         let written = mem.write(at, &bytes);
         assert!(rt; written.is_ok() && at < MEMORY);
         at += 16;
@@ -98,7 +107,7 @@ fn give_back(
     len: u32,
 ) -> bool {
     let inside = areas_inside(mem.len(), &device.cfg);
-    assert!(rt; inside && chain.slots <= device.cfg.size);
+    assert!(rt; inside && chain.slots <= device.cfg.size && mem.spare() >= 4);
     device.give(mem, chain, len)
 }
 
@@ -460,7 +469,7 @@ const TABLES: [Row<'static>; 13] = [
 
 fn check_rows(rt: &impl Abort, alloc: Global, rows: &[Row]) -> Result<(), Fail> {
     for row in rows {
-        let mut mem = GuestMem::new(alloc, MEMORY)?;
+        let mut mem = memory(alloc)?;
         assert_eq!(rt; row_shows(rt, &mut mem, row), row.shows, "{}", row.name);
     }
     Ok(())
@@ -530,7 +539,7 @@ fn shows_up_to_8_pieces(rt: HostRuntime) -> Result<(), Fail> {
                 Shows::Bad
             };
             for direct in 0..total + 1 {
-                let mut mem = GuestMem::new(rt.alloc(), MEMORY)?;
+                let mut mem = memory(rt.alloc())?;
                 check_chain(&rt, &mut mem, size, direct, total - direct, shows);
             }
         }
@@ -540,7 +549,7 @@ fn shows_up_to_8_pieces(rt: HostRuntime) -> Result<(), Fail> {
 
 #[test]
 fn counts_past_65535(rt: HostRuntime) -> Result<(), Fail> {
-    let mut mem = GuestMem::new(rt.alloc(), MEMORY)?;
+    let mut mem = memory(rt.alloc())?;
     put_table(&rt, &mut mem, 0, &[WRITABLE]);
     put16(&rt, &mut mem, DRIVER + 6, 65_535);
     let mut device = SplitDevice::new(&cfg(1, false, true));
@@ -562,7 +571,7 @@ fn counts_past_65535(rt: HostRuntime) -> Result<(), Fail> {
 
 #[test]
 fn gives_in_any_order(rt: HostRuntime) -> Result<(), Fail> {
-    let mut mem = GuestMem::new(rt.alloc(), MEMORY)?;
+    let mut mem = memory(rt.alloc())?;
     put_table(&rt, &mut mem, 0, &[WRITABLE; 4]);
     put16(&rt, &mut mem, DRIVER + 2, 2);
     put16(&rt, &mut mem, DRIVER + 4, 3);

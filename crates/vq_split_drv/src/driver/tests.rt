@@ -1,13 +1,13 @@
 //! The driver's end over a port that keeps each access as a line of text.
 
-ghost use Rattle.std.specs.Prelude.{◌≡◌, ◌+◌, ◌<◌, ◌≤◌, IsTrue, IfOk, false, length};
+ghost use Rattle.std.specs.Prelude.{◌≡◌, ◌≤◌, IfOk, length};
 ghost use Rattle.vt_types.specs.Operation.{posted_buffer};
-ghost use Rattle.vt_types.specs.Program.{cost_of_all};
 ghost use Rattle.vq_common.specs.Buffer.{IsPostable};
-ghost use Rattle.vq_common.specs.Queue.{holds_tag};
+ghost use Rattle.vq_common.specs.Queue.{GREATEST_COST_OF_POST};
 
 use super::SplitDriver;
 use arrayvec::ArrayVec;
+use byteorder::{ByteOrder, LittleEndian};
 use std::alloc::Global;
 use std::fmt::Write;
 use std::process::Abort;
@@ -95,17 +95,6 @@ fn buffer(alloc: Global, tag: u16, pieces: usize, indirect: bool) -> Result<Post
     })
 }
 
-/// Posts by the trait alone.
-fn post_through<D: DriverEnd, P: Port>(driver: &mut D, port: &mut P, buf: &PostBuf) -> bool
-    requires started { 0 < (D.queue driver.old).cfg.size }
-    requires postable { IsPostable (posted_buffer buf.now) }
-    requires tag { holds_tag buf.now.tag (D.queue driver.old).unreaped ≡ false }
-    requires table { IsTrue buf.now.indirect → length buf.now.cuts.items ≤ (D.queue driver.old).cfg.size }
-    requires credit { cost_of_all (D.post_accesses (D.queue driver.old) (posted_buffer buf.now)) ≤ P.credit port.old }
-{
-    driver.post(port, buf).is_ok()
-}
-
 /// What is asked of the driver.
 #[derive(Clone, Copy)]
 enum Ask<'a> {
@@ -125,8 +114,9 @@ enum Ask<'a> {
     Signals(bool),
 }
 
+/// A driver's end of a started queue. No other size than these is tried.
 fn started(alloc: Global, size: u16, event_idx: bool) -> Result<SplitDriver, Memory> {
-    let mut driver = SplitDriver::new(alloc, 256)?;
+    let mut driver = SplitDriver::new(alloc, 1024)?;
     let cfg = RingCfg {
         desc: 0x100_0000,
         driver: 0x100_4000,
@@ -135,6 +125,7 @@ fn started(alloc: Global, size: u16, event_idx: bool) -> Result<SplitDriver, Mem
             1 => 1,
             2 => 2,
             256 => 256,
+            1024 => 1024,
             _ => 8,
         },
         indirect: true,
@@ -144,27 +135,30 @@ fn started(alloc: Global, size: u16, event_idx: bool) -> Result<SplitDriver, Mem
     Ok(driver)
 }
 
-fn post(rt: &impl Abort, driver: &mut SplitDriver, port: &mut Lines<'_>, buf: &PostBuf) -> bool
-    requires { IsPostable (posted_buffer buf.now) }
+fn post<P: Port>(rt: &impl Abort, driver: &mut SplitDriver, port: &mut P, buf: &PostBuf) -> bool
+    requires postable { IsPostable (posted_buffer buf.now) }
+    requires credit { GREATEST_COST_OF_POST ≤ P.credit port.old }
 {
-    assert!(rt; driver.cfg.size > 0);
+    assert!(rt; driver.ring.cfg.size > 0);
     assert!(rt; !driver.has_tag(buf.tag));
-    assert!(rt; buf.cuts.len() <= usize::from(driver.cfg.size));
-    post_through(driver, port, buf)
+    assert!(rt; buf.cuts.len() <= usize::from(driver.ring.cfg.size));
+    driver.post(port, buf).is_ok()
 }
 
-fn reap(
+fn reap<P: Port>(
     rt: &impl Abort,
     driver: &mut SplitDriver,
-    port: &mut Lines<'_>,
+    port: &mut P,
     room: &mut Room,
-) -> Option<Reaped> {
-    assert!(rt; driver.cfg.size > 0);
+) -> Option<Reaped>
+    requires { 1 ≤ P.credit port.old }
+{
+    assert!(rt; driver.ring.cfg.size > 0);
     driver.reap(port, room)
 }
 
 fn signals(rt: &impl Abort, driver: &mut SplitDriver, port: &mut Lines<'_>, on: bool) {
-    assert!(rt; driver.cfg.size > 0);
+    assert!(rt; driver.ring.cfg.size > 0);
     driver.set_signals(port, on);
 }
 
@@ -215,31 +209,6 @@ fn try_one<'a>(
 
 fn count_puts(text: &str) -> usize {
     text.lines().filter(|line| line.starts_with("put ")).count()
-}
-
-#[test]
-fn posts_until_full(rt: HostRuntime) -> Result<(), Fail> {
-    for size in [1u16, 2, 8, 256] {
-        let mut driver = started(rt.alloc(), size, false)?;
-        for tag in 0..size {
-            let buf = buffer(rt.alloc(), tag, 1, false)?;
-            let mut port = Lines {
-                text: String::new(rt.alloc()),
-                answers: &[],
-                next: 0,
-            };
-            assert!(rt; post(&rt, &mut driver, &mut port, &buf), "{tag} of {size}");
-        }
-        assert_eq!(rt; driver.free(), 0);
-        let more = Ask::Post {
-            tag: size,
-            pieces: 1,
-            indirect: false,
-            fits: false,
-        };
-        try_one(&rt, rt.alloc(), &mut driver, more, "")?;
-    }
-    Ok(())
 }
 
 /// Chains of 1 to 8 pieces on a ring of 8: of the ring's own descriptors, and as a table.
@@ -358,16 +327,6 @@ const REAPS_AND_POSTS: [(Ask<'static>, &str); 8] = [
     ),
 ];
 
-/// Eight descriptors: buffers are reaped in another order, and the lowest free descriptors are taken.
-#[test]
-fn reaps_and_posts_again(rt: HostRuntime) -> Result<(), Fail> {
-    let mut driver = started(rt.alloc(), 8, false)?;
-    for (ask, lines) in REAPS_AND_POSTS {
-        try_one(&rt, rt.alloc(), &mut driver, ask, lines)?;
-    }
-    Ok(())
-}
-
 const SIGNALS: [(Ask<'static>, &str); 6] = [
     (
         Ask::Post {
@@ -412,16 +371,6 @@ const SIGNALS: [(Ask<'static>, &str); 6] = [
     (Ask::Signals(true), "put 1004000 0000\nmark\n"),
     (Ask::Signals(false), "put 1004000 0100\nmark\n"),
 ];
-
-/// With EVENT_IDX a reap asks for the next signal, and that put is marked.
-#[test]
-fn asks_for_the_next_signal(rt: HostRuntime) -> Result<(), Fail> {
-    let mut driver = started(rt.alloc(), 2, true)?;
-    for (ask, lines) in SIGNALS {
-        try_one(&rt, rt.alloc(), &mut driver, ask, lines)?;
-    }
-    Ok(())
-}
 
 const IDLE: &str = "get 1006002 2\nmark\n";
 
@@ -489,13 +438,93 @@ const HOSTILE: [(Ask<'static>, &str); 6] = [
     ),
 ];
 
-/// Answers of another form, other numbers of bytes, an id that nobody posted, a length that is too great.
+/// Rings of so many descriptors, with EVENT_IDX or without, and what is asked of their ends in order.
+const RINGS: [(u16, bool, &[(Ask<'static>, &str)]); 3] = [
+    (8, false, &REAPS_AND_POSTS),
+    (2, true, &SIGNALS),
+    (2, false, &HOSTILE),
+];
+
 #[test]
-fn takes_hostile_answers(rt: HostRuntime) -> Result<(), Fail> {
-    let mut driver = started(rt.alloc(), 2, false)?;
-    for (ask, lines) in HOSTILE {
-        try_one(&rt, rt.alloc(), &mut driver, ask, lines)?;
+fn makes_the_accesses_of_each_call(rt: HostRuntime) -> Result<(), Fail> {
+    for (size, event_idx, asks) in RINGS {
+        let mut driver = started(rt.alloc(), size, event_idx)?;
+        for (ask, lines) in asks {
+            try_one(&rt, rt.alloc(), &mut driver, *ask, lines)?;
+        }
     }
-    assert_eq!(rt; driver.free(), 2);
+    Ok(())
+}
+
+/// A port whose used ring has one element more each time: that of the buffer `id`.
+#[derive(Drop)]
+struct UsedRing {
+    index: u16,
+    id: u16,
+}
+
+impl Port for UsedRing {
+    ghost step = { λ _ _ _ _ _ _. Unit {0} };
+
+    ghost marking = { λ _ _. Unit {0} };
+
+    ghost credit = { λ _. 4096 };
+
+    fn access(&mut self, a: &Access<'_>, room: &mut Room) -> Answer {
+        let Access::Get { count, .. } = *a else {
+            return Answer::Done;
+        };
+        let mut bytes = [0u8; 8];
+        let number = if count == 2 { self.index } else { self.id };
+        LittleEndian::write_u16(&mut bytes, number);
+        room.clear();
+        let _ = room.try_extend_from_slice(&bytes[..usize::from(count.min(8))]);
+        Answer::Got
+    }
+
+    fn mark(&mut self) {}
+}
+
+/// Posts as many buffers of one descriptor as the ring has room for; the tag of each is its number.
+fn fill(
+    rt: &impl Abort,
+    alloc: Global,
+    driver: &mut SplitDriver,
+    port: &mut UsedRing,
+    size: u16,
+) -> Result<(), Fail> {
+    for tag in 0..size {
+        let buf = buffer(alloc, tag, 1, false)?;
+        assert!(rt; post(rt, driver, port, &buf), "{tag} of {size}");
+    }
+    let more = buffer(alloc, size, 1, false)?;
+    assert!(rt; !post(rt, driver, port, &more), "{size}");
+    Ok(())
+}
+
+/// Each ring is filled, reaped in another order, and filled again.
+#[test]
+fn fills_rings_again(rt: HostRuntime) -> Result<(), Fail> {
+    for size in [1u16, 2, 8, 256, 1024] {
+        let mut driver = started(rt.alloc(), size, false)?;
+        let mut port = UsedRing { index: 0, id: 0 };
+        let mut room = Room::new();
+        fill(&rt, rt.alloc(), &mut driver, &mut port, size)?;
+        for number in 0..size {
+            port.index = number + 1;
+            port.id = (5 * number + 3) % size;
+            let want = Reaped {
+                tag: port.id,
+                len: 0,
+            };
+            assert_eq!(rt;
+                reap(&rt, &mut driver, &mut port, &mut room),
+                Some(want),
+                "{number} of {size}"
+            );
+        }
+        assert_eq!(rt; driver.free(), size);
+        fill(&rt, rt.alloc(), &mut driver, &mut port, size)?;
+    }
     Ok(())
 }

@@ -1,8 +1,8 @@
-use Rattle.std.proofs.Common.{◌≡◌, ℕ, List, Bool, length, is_ok, sym, ◌∙◌, ap, arith}
+use Rattle.std.proofs.Common.{◌≡◌, ℕ, List, Bool, length, is_ok, sym, ◌∙◌, ap}
 use Rattle.vt_types.specs.Operation.{posted_buffer}
 use Rattle.vt_types.proofs.Programs.{gives_runs}
+use Rattle.guest_mem.specs.Pages.{MemoryView}
 use Rattle.vq_common.specs.Queue.{DriverQueue, post_program}
-use Rattle.vq_split_drv.specs.Cost.{cost}
 use Rattle.vq_split_drv.specs.Post.{split_post_accesses, split_posted}
 use Rattle.memory_port.specs.declared.port.MemoryPort.{MemoryPort}
 use Rattle.memory_port.specs.MemoryTable.{MemoryStep, memory_table}
@@ -10,21 +10,18 @@ use Rattle.memory_port.proofs.MemoryLaws.{length-run}
 use Rattle.vq_split_pair.proofs.Outcomes.{post_shows}
 use Rattle.vq_split_pair.proofs.post.Goals as goal
 
-pub post-requires-clause-credit : goal.post-requires-clause-credit
-post-requires-clause-credit c = omega (arith, cost c.args.driver.now.queue (posted_buffer c.args.buf.now) c.requires.postable)
-
 pub returns-clause-posts : goal.returns-clause-posts
 returns-clause-posts c =
-    gives_runs (λ (p : MemoryPort) a answer room room2 (p2 : MemoryPort). MemoryStep p.memory a answer room room2 p2.memory) (λ (p p2 : MemoryPort). p2.memory ≡ p.memory) (λ (p : MemoryPort). p.memory) memory_table (λ mem. mem)
-    (record { steps = λ p p2 a answer room room2 s. s.table; marks = λ p p2 m. m })
+    gives_runs (λ (p : MemoryPort) a answer room room2 (p2 : MemoryPort). MemoryStep p.memory.bytes a answer room room2 p2.memory.bytes) (λ (p p2 : MemoryPort). p2.memory ≡ p.memory) (λ (p : MemoryPort). p.memory.bytes) memory_table (λ mem. mem)
+    (record { steps = λ p p2 a answer room room2 s. s.table; marks = λ p p2 m. ap (λ (view : MemoryView). view.bytes) m })
     (post_program split_post_accesses split_posted c.args.driver.now.queue (posted_buffer c.args.buf.now)) c.args.port.now c.post.new.port (is_ok c.post.result, c.post.new.self.queue) c.post.ensures.gives
 
 pub returns-clause-memory : goal.returns-clause-memory
 returns-clause-memory c =
     ap (λ (r : (Bool × DriverQueue) × List ℕ). length r.1) (sym (returns-clause-posts c))
-    ∙ length-run (post_program split_post_accesses split_posted c.args.driver.now.queue (posted_buffer c.args.buf.now)) c.args.port.now.memory
+    ∙ length-run (post_program split_post_accesses split_posted c.args.driver.now.queue (posted_buffer c.args.buf.now)) c.args.port.now.memory.bytes
 
 pub returns-clause-shows : goal.returns-clause-shows
 returns-clause-shows c =
-    post_shows c.post.result c.args.driver.now.queue c.post.new.self.queue (posted_buffer c.args.buf.now) c.args.port.now.memory c.post.new.port.memory (returns-clause-posts c)
+    post_shows c.post.result c.args.driver.now.queue c.post.new.self.queue (posted_buffer c.args.buf.now) c.args.port.now.memory.bytes c.post.new.port.memory.bytes (returns-clause-posts c)
     c.requires.ring c.post.ensures.order c.requires.postable c.requires.table c.requires.feature

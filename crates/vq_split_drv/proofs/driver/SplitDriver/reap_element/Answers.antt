@@ -1,40 +1,48 @@
-use Rattle.std.proofs.Common.{◌≡◌, ℕ, ◌+◌, ◌%◌, ◌^◌, List, not, Option, Some, None, ap, sym, ◌∙◌, subst}
-use Rattle.std.specs.Prelude.{remove}
+use Rattle.std.proofs.Common.{◌≡◌, ℕ, ◌+◌, ◌%◌, ◌^◌, List, Some, ap, sym, ◌∙◌, subst, arith}
 use Rattle.vt_types.specs.Program.{Gives}
+use Rattle.port_access.specs.Accesses.{bytes_program}
 use Rattle.vq_common.specs.Map.{data_place}
-use Rattle.vq_common.specs.Queue.{DriverQueue, Unreaped}
-use Rattle.vq_split_drv.specs.Driver.{SplitState}
-use Rattle.vq_split_drv.specs.Reap.{mark_alone, bytes_program, ask_program, reap_element, split_reaped, unreaped_with, without}
-use Rattle.vq_split_drv.proofs.Reaps.{reap_found_gives, reap_unknown_gives, reap_long_gives}
-use Rattle.vq_split_drv.proofs.Records.{found_at, not_found_at}
+use Rattle.vq_common.specs.Queue.{DriverQueue, Unreaped, unreaped_with, without}
+use Rattle.vq_posted.specs.Table.{PostedView}
+use Rattle.vq_posted.proofs.Each.{each-without, found_at}
+use Rattle.vq_posted.proofs.Reaps.{reap_found_gives}
+use Rattle.vq_split_drv.specs.Driver.{IsKept, IsSplitBuffer, SplitState, split_queue}
+use Rattle.vq_split_drv.specs.Reap.{reap_element, split_reaped, used_event_put}
 use Rattle.vq_split_drv.proofs.driver.SplitDriver.reap_element.Goals as goal
-use Rattle.vq_split_drv.proofs.driver.SplitDriver.reap_element.Goals.{in_default-via-in-Some+else-len-le8192, in_default-via-in_default}
+
+pub overflow_cast-head : goal.overflow_cast-head
+overflow_cast-head g c =
+    let i = c.self.inside in
+    let (u, k, h) = found_at IsSplitBuffer c.args.element.id i.posted.unreaped c.in-Some.found c.self.invariant.each c.in-Some.ensures in
+    omega (arith, k.is, h.id)
+
+pub invariant_of-self : goal.invariant_of-self
+invariant_of-self g c =
+    let i = c.self.inside in
+    subst (λ (v : PostedView). IsKept i.ring.cfg.size v) (sym c.remove.ensures)
+    (record { ring = c.self.invariant.ring; each = each-without IsSplitBuffer c.args.element.id i.posted.unreaped c.self.invariant.each })
 
 pub returns-in-Some-clause-gives : goal.returns-in-Some-clause-gives
 returns-in-Some-clause-gives g c =
-    let q : DriverQueue = c.args.self.now.queue in
-    let (u, k) = found_at c.args.id q.unreaped c.in-Some.place (sym c.in-Some.ensures) in
-    let tag : c.tag_at-tag.result ≡ u.tag = rw k.got at c.tag_at-tag.ensures in
-    let place : c.written_at.result ≡ data_place q.base u.id + u.readable = rw k.got at c.written_at.ensures in
-    let others : without u.id q.unreaped ≡ remove q.unreaped c.in-Some.place = ap (λ (i : ℕ). without i q.unreaped) k.is ∙ k.others in
-    let after : c.take_back.new.self.queue ≡ split_reaped q u
-    = c.take_back.ensures.queue ∙ ap (λ (us : List Unreaped). record q { used = (q.used + 1) % 2 ^ 16; unreaped = us }) (sym others)
+    let i = c.self.inside in
+    let us : List Unreaped = i.posted.unreaped in
+    let q : DriverQueue = split_queue i.ring us in
+    let id : ℕ = c.args.element.id in
+    let len : ℕ = c.args.element.len in
+    let step = g.P.Port.step in
+    let marking = g.P.Port.marking in
+    let p = c.args.port.now in
+    let p1 = c.get_data.new.port in
+    let p2 = c.ask_next.new.port in
+    let bytes : List ℕ = c.get_data.new.room.items in
+    let (u, k, h) = found_at IsSplitBuffer id us c.in-Some.found c.self.invariant.each c.in-Some.ensures in
+    let place : data_place i.ring.base id + c.in-Some.found.readable ≡ data_place q.base u.id + u.readable
+    = ap (λ (n : ℕ). data_place i.ring.base n + c.in-Some.found.readable) (sym k.is) ∙ ap (λ (n : ℕ). data_place i.ring.base u.id + n) (sym k.readable)
     in
-    let got_them = subst (λ (a : ℕ). Gives g.P.Port.step g.P.Port.marking (bytes_program a c.args.len) c.args.port.now c.get_written.new.room.items c.get_written.new.port) place c.get_written.ensures.gives in
-    let asked = subst (λ (r : DriverQueue). Gives g.P.Port.step g.P.Port.marking (ask_program r) c.get_written.new.port tt c.ask_next.new.port) after c.ask_next.ensures.gives in
-    subst (λ (t : ℕ). Gives g.P.Port.step g.P.Port.marking (reap_element q c.args.len (unreaped_with c.args.id q.unreaped)) c.args.port.now (Some (record { tag = t; len = c.args.len; bytes = c.get_written.new.room.items }), c.take_back.new.self.queue) c.ask_next.new.port) (sym tag)
-    (subst (λ (r : DriverQueue). Gives g.P.Port.step g.P.Port.marking (reap_element q c.args.len (unreaped_with c.args.id q.unreaped)) c.args.port.now (Some (record { tag = u.tag; len = c.args.len; bytes = c.get_written.new.room.items }), r) c.ask_next.new.port) (sym after)
-    (reap_found_gives g.P.Port.step g.P.Port.marking q u (unreaped_with c.args.id q.unreaped) c.args.len c.get_written.new.room.items c.args.port.now c.get_written.new.port c.ask_next.new.port k.named c.if-len-le8192.true got_them asked))
-
-pub returns-in_default-clause-gives : goal.returns-in_default-clause-gives
-returns-in_default-clause-gives g c =
-    let q : DriverQueue = c.args.self.now.queue in
-    let o = unreaped_with c.args.id q.unreaped in
-    let marked = subst (λ (s : SplitState). Gives g.P.Port.step g.P.Port.marking (mark_alone (not s.queue.cfg.event_idx)) c.args.port.now tt c.mark_where_due.new.port) c.self.view_is c.mark_where_due.ensures.gives in
-    elim c.in_default.branch [
-      | in_default-via-in-Some+else-len-le8192 w ↦ reap_long_gives g.P.Port.step g.P.Port.marking q o c.args.len c.args.port.now c.mark_where_due.new.port w.if-len-le8192.false marked
-      | in_default-via-in_default w ↦
-          subst (λ (v : Option Unreaped). Gives g.P.Port.step g.P.Port.marking (reap_element q c.args.len v) c.args.port.now (None, q) c.mark_where_due.new.port)
-          (sym (not_found_at c.args.id q.unreaped (sym c.find.ensures ∙ w.in_default.is)))
-          (reap_unknown_gives g.P.Port.step g.P.Port.marking q c.args.len c.args.port.now c.mark_where_due.new.port marked)
-    ]
+    let got_them = subst (λ (a : ℕ). Gives step marking (bytes_program a len) p bytes p1) place c.get_data.ensures.gives in
+    let after : c.remove.new.self.unreaped ≡ without u.id us = ap (λ (v : PostedView). v.unreaped) c.remove.ensures ∙ ap (λ (n : ℕ). without n us) (sym k.is) in
+    subst (λ (s : SplitState). Gives step marking (reap_element s.queue len (unreaped_with id s.queue.unreaped)) p
+    (Some (record { tag = c.in-Some.found.tag; len = len; bytes = bytes }), record q { used = (i.ring.used + 1) % 2 ^ 16; unreaped = c.remove.new.self.unreaped }) p2) c.self.view_is
+    (subst (λ (t : ℕ). Gives step marking (reap_element q len (unreaped_with id us)) p (Some (record { tag = t; len = len; bytes = bytes }), record q { used = (i.ring.used + 1) % 2 ^ 16; unreaped = c.remove.new.self.unreaped }) p2) k.tag
+    (subst (λ (vs : List Unreaped). Gives step marking (reap_element q len (unreaped_with id us)) p (Some (record { tag = u.tag; len = len; bytes = bytes }), record q { used = (i.ring.used + 1) % 2 ^ 16; unreaped = vs }) p2) (sym after)
+    (reap_found_gives step marking split_reaped used_event_put q u (unreaped_with id us) len bytes p p1 p2 k.named c.if-element-le8192.true got_them c.ask_next.ensures.gives)))

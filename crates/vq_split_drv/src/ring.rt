@@ -1,0 +1,68 @@
+//! A split ring in its queue block.
+
+ghost use Rattle.std.specs.Prelude.{◌≡◌, ◌%◌, ◌<◌, ◌≤◌, ◌^◌, IsTrue};
+ghost use Rattle.vq_common.specs.Map.{data_place};
+ghost use Rattle.vq_common.specs.Queue.{IsPlaced, is_ring_size};
+
+use vq_common::RingCfg;
+use vq_common::map::{DATA, DATA_LEN};
+
+/// A split ring in its queue block, and the indices of the next available and of the next used element.
+#[derive(Clone, Copy)]
+pub(crate) struct Ring {
+    pub cfg: RingCfg,
+    pub base: u64,
+    pub available: u16,
+    pub used: u16,
+    ghost small: { cfg.size ≤ 1024 },
+    ghost low: { base ≤ 0x500_0000 },
+    ghost page: { base % 4096 ≡ 0 },
+    ghost available_wraps: { available < 2 ^ 16 },
+    ghost used_wraps: { used < 2 ^ 16 },
+}
+
+impl Ring {
+    /// A ring of no descriptors.
+    pub fn none() -> Ring
+        ensures { result.cfg.size ≡ 0 }
+    {
+        Ring {
+            cfg: RingCfg {
+                desc: 0,
+                driver: 0,
+                device: 0,
+                size: 0,
+                indirect: false,
+                event_idx: false,
+            },
+            base: 0,
+            available: 0,
+            used: 0,
+        }
+    }
+
+    /// A ring that begins.
+    pub fn new(cfg: &RingCfg, base: u64) -> Ring
+        requires size { IsTrue (is_ring_size cfg.now.size) }
+        requires placed { IsPlaced cfg.now base }
+        ensures cfg { result.cfg ≡ cfg.now }
+        ensures base { result.base ≡ base }
+        ensures available { result.available ≡ 0 }
+        ensures used { result.used ≡ 0 }
+    {
+        Ring {
+            cfg: *cfg,
+            base,
+            available: 0,
+            used: 0,
+        }
+    }
+
+    /// Where the data of the buffer with this head lies.
+    pub fn data(&self, head: u16) -> u64
+        ensures value { result ≡ data_place self.now.base head }
+        ensures low { result < 2 ^ 32 }
+    {
+        self.base + DATA + DATA_LEN * u64::from(head)
+    }
+}
