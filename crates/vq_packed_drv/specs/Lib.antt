@@ -1,0 +1,4 @@
+pub mod Cost
+pub mod Driver
+pub mod Post
+pub mod Reap
