@@ -1,5 +1,5 @@
 -- What the console's rules keep.
-use Rattle.std.proofs.Common.{◌≡◌, ℕ, zero, suc, ◌-◌, ◌≤◌, ◌==◌, List, [], ◌∷◌, ◌++◌, length, take, drop, true, false, IsTrue, if◌then◌else◌, refl, sym, ◌∙◌, ap, arith, length-take, length-append, append_assoc}
+use Rattle.std.proofs.Common.{◌≡◌, ℕ, zero, suc, ◌+◌, ◌-◌, ◌≤◌, ◌==◌, List, [], ◌∷◌, ◌++◌, length, take, true, false, IsTrue, if◌then◌else◌, refl, sym, ◌∙◌, ap, arith, length-take, length-append, append_assoc}
 use Rattle.std.proofs.Math.Seq.{take-nil}
 use Rattle.std.proofs.lemmas.List.{take-append-drop}
 use Rattle.vq_common.specs.declared.chain.Piece.{Piece}
@@ -7,7 +7,7 @@ use Rattle.vq_common.specs.Piece.{SameBytes, keeps_rules, readable, room, scatte
 use Rattle.vq_common.proofs.RuleFacts.{rules_inside, readable_len-le}
 use Rattle.vq_common.proofs.PieceLaws.{length-readable}
 use Rattle.vq_common.proofs.CutLaws.{readable-same_bytes, room-same_bytes, scatter-same_bytes}
-use Rattle.dev_console.specs.Console.{ConsoleState, ConsoleAnswer, MOST_WAITING, console_answer, with_input}
+use Rattle.dev_console.specs.Console.{ConsoleState, ConsoleAnswer, MOST_WAITING, console_answer, no_answer, receive_answer, transmit_answer, with_input}
 use Rattle.dev_console.specs.Serve.{Serves, chain_answer}
 
 -- the readable bytes of a chain are at most 8,192, so `reserve` makes room for those of 129 chains
@@ -33,20 +33,27 @@ Serves-same_bytes queue mem mem2 ps qs s s2 count test same served =
       spare = served.spare;
     }
 
--- what holds of the answers on both queues holds of every answer
-by_queue : (P : ConsoleAnswer → Type 0) (queue : ℕ) (bytes : List ℕ) (n : ℕ) (waiting console : List ℕ) → P (console_answer 0 bytes n waiting console) → P (console_answer 1 bytes n waiting console) → P (console_answer queue bytes n waiting console)
-by_queue P queue bytes n waiting console received sent =
-    elim (queue == 0) as (λ t. P (if t then record { written = take n waiting; waiting = drop n waiting; console = console } else record { written = []; waiting = waiting; console = console ++ bytes }))
-    [ true ↦ received | false ↦ sent ]
+-- what holds of the answers on both queues, and where there is none, holds of every answer
+by_queue : (P : ConsoleAnswer → Type 0) (queue : ℕ) (bytes : List ℕ) (n : ℕ) (waiting console : List ℕ) → P (console_answer 0 bytes n waiting console) → P (console_answer 1 bytes n waiting console) → P (no_answer waiting console) → P (console_answer queue bytes n waiting console)
+by_queue P queue bytes n waiting console received sent none =
+    elim (queue == 0) as (λ t. P (if t then receive_answer n waiting console else (if queue == 1 then transmit_answer bytes waiting console else no_answer waiting console))) [
+      | true ↦ received
+      | false ↦ elim (queue == 1) as (λ t. P (if t then transmit_answer bytes waiting console else no_answer waiting console)) [ true ↦ sent | false ↦ none ]
+    ]
 
 -- no more is written than there is room for
 pub written-le : (queue : ℕ) (bytes : List ℕ) (n : ℕ) (waiting console : List ℕ) → length (console_answer queue bytes n waiting console).written ≤ n
-written-le queue bytes n waiting console = by_queue (λ a. length a.written ≤ n) queue bytes n waiting console (omega (arith, length-take n waiting)) (omega arith)
+written-le queue bytes n waiting console = by_queue (λ a. length a.written ≤ n) queue bytes n waiting console (omega (arith, length-take n waiting)) (omega arith) (omega arith)
+
+-- no more joins the console than was readable
+pub console-le : (queue : ℕ) (bytes : List ℕ) (n : ℕ) (waiting console : List ℕ) → length (console_answer queue bytes n waiting console).console ≤ length console + length bytes
+console-le queue bytes n waiting console =
+    by_queue (λ a. length a.console ≤ length console + length bytes) queue bytes n waiting console (omega arith) (omega (arith, length-append console bytes)) (omega arith)
 
 -- no input is lost or doubled: what was written and what still waits is what waited
 pub written-append-waiting : (queue : ℕ) (bytes : List ℕ) (n : ℕ) (waiting console : List ℕ)
     → (console_answer queue bytes n waiting console).written ++ (console_answer queue bytes n waiting console).waiting ≡ waiting
-written-append-waiting queue bytes n waiting console = by_queue (λ a. a.written ++ a.waiting ≡ waiting) queue bytes n waiting console (take-append-drop n waiting) refl
+written-append-waiting queue bytes n waiting console = by_queue (λ a. a.written ++ a.waiting ≡ waiting) queue bytes n waiting console (take-append-drop n waiting) refl refl
 
 -- never more input waits than may
 pub length-with_input : (waiting bytes : List ℕ) → length waiting ≤ MOST_WAITING → length (with_input waiting bytes) ≤ MOST_WAITING

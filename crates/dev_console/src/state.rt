@@ -113,9 +113,9 @@ impl ConState {
 
     /// Adds bytes of guest memory to the console's.
     pub(crate) fn write(&mut self, mem: &GuestMem, addr: u64, len: u32)
-        requires inside { addr + len ≤ length mem.now }
+        requires inside { addr + len ≤ length mem.now.bytes }
         requires room { len ≤ self.old.spare }
-        ensures { self.new ≡ record self.old { console = self.old.console ++ part mem.now addr len; spare = self.old.spare - len } }
+        ensures { self.new ≡ record self.old { console = self.old.console ++ part mem.now.bytes addr len; spare = self.old.spare - len } }
     {
         let start = self.console.len();
         let end = start + len as usize;

@@ -11,8 +11,8 @@ use vq_common::{Chain, Piece, are_pieces_valid};
 /// A chain of pieces: the address of each, its length, and whether the device writes it.
 #[tactic(auto, using(crate::proofs::ConsoleLaws::readable_fits))]
 fn chain_of(rt: &impl Abort, mem: &GuestMem, pieces: &[(u64, u32, bool)]) -> Chain
-    ensures rules { IsTrue (keeps_rules (length mem.now) result.pieces.items) }
-    ensures fits { length (readable mem.now result.pieces.items) ≤ 8192 }
+    ensures rules { IsTrue (keeps_rules (length mem.now.bytes) result.pieces.items) }
+    ensures fits { length (readable mem.now.bytes result.pieces.items) ≤ 8192 }
 {
     let mut chain = Chain {
         id: 0,
@@ -30,6 +30,7 @@ fn chain_of(rt: &impl Abort, mem: &GuestMem, pieces: &[(u64, u32, bool)]) -> Cha
 #[test]
 fn serves_chains(rt: HostRuntime) -> Result<(), Fail> {
     let mut mem = GuestMem::new(rt.alloc(), 64)?;
+    mem.reserve(rt.alloc(), 17)?;
     let mut state = ConState::new(rt.alloc())?;
     assert_eq!(rt; mem.write(16, b"hello, world"), Ok(()));
     state.key(b"abc");
@@ -48,6 +49,7 @@ fn serves_chains(rt: HostRuntime) -> Result<(), Fail> {
         (1, &[(0, 2, true)], 0, 0, b"hello, worldabc"),
     ] {
         state.reserve(rt.alloc())?;
+        mem.reserve(rt.alloc(), 16)?;
         assert!(rt; queue == 1 || state.waiting() > 0);
         let chain = chain_of(&rt, &mem, pieces);
         assert_eq!(rt; serve_chain(&mut mem, &chain, queue, &mut state), written);
@@ -71,6 +73,7 @@ fn keeps_input_and_emergency_bytes(rt: HostRuntime) -> Result<(), Fail> {
     state.key(b"xyz");
     assert_eq!(rt; state.waiting(), 4096);
     let mut mem = GuestMem::new(rt.alloc(), 8192)?;
+    mem.reserve(rt.alloc(), 16)?;
     let chain = chain_of(&rt, &mem, &[(0, 4096, true), (4096, 4096, true)]);
     assert_eq!(rt; serve_chain(&mut mem, &chain, 0, &mut state), 4096);
     let mut room = [0u8; 3];

@@ -1,0 +1,8 @@
+pub mod CallsLaws
+pub mod RequestLaws
+pub mod FillLaws
+pub mod SectorsLaws
+pub mod ReadLaws
+pub mod CarryLaws
+pub mod CheckLaws
+pub mod ServeLaws

@@ -1,0 +1,12 @@
+//! A network device (VIRTIO 1.2, 5.1): the frames that wait for buffers of the receive queue, and the frames that were sent
+//! by the transmit queue.
+#![tactic(auto)]
+
+mod sent;
+mod serve;
+mod state;
+#[cfg(test)]
+mod tests;
+
+pub use serve::serve_chain;
+pub use state::{FRAMES_ROOM, LONGEST_WAITING, MOST_WAITING, NetState};
