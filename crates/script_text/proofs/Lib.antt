@@ -1,0 +1,8 @@
+pub mod WordLaws
+pub mod NumberLaws
+pub mod FieldLaws
+pub mod EventLaws
+pub mod PostLaws
+pub mod BoundLaws
+pub mod LineLaws
+pub mod ReaderLaws

@@ -1,0 +1,14 @@
+pub mod Limits
+pub mod Words
+pub mod Reading
+pub mod Fields
+pub mod Event
+pub mod Post
+pub mod Operation
+pub mod Raw
+pub mod Line
+pub mod Form
+pub mod Within
+pub mod Pieces
+pub mod Lines
+pub mod Reader
