@@ -13,8 +13,9 @@ use Rattle.vq_common.specs.declared.chain.RingCfg.{RingCfg}
 use Rattle.vq_common.specs.Descriptor.{descriptor_bytes}
 use Rattle.vq_common.specs.Map.{driver_area, data_place}
 use Rattle.vq_common.specs.Queue.{DriverQueue}
-use Rattle.vq_split_drv.specs.Post.{numbers, is_in, post_puts, head_of}
+use Rattle.vq_split_drv.specs.Post.{post_puts}
 use Rattle.script_run.specs.Lowering.{DriverRecord, Ended, mmio_program, if_set, post_queue, end_of_post, unless_refused, queue_block}
+use Rattle.vq_posted.specs.Free.{numbers, is_in, head_of}
 
 -- a buffer of one readable piece, with its bytes
 abbrev pub one_readable : ℕ → List ℕ → PostedBuffer

@@ -15,13 +15,14 @@ use Rattle.vt_types.specs.Program.{Program, Do, Mark, End, and_then}
 use Rattle.vt_types.specs.Reply as reply
 use Rattle.vq_common.specs.declared.chain.RingCfg.{RingCfg}
 use Rattle.vq_common.specs.Map.{driver_area, device_area}
-use Rattle.vq_common.specs.Queue.{DriverQueue}
-use Rattle.vq_split_drv.specs.Reap.{bytes_or_zeros, mark_unless, reap_element, split_reap_program, unreaped_with}
+use Rattle.vq_common.specs.Queue.{DriverQueue, unreaped_with}
+use Rattle.vq_split_drv.specs.Reap.{reap_element, split_reap_program}
 use Rattle.abstract_devices.specs.World.{Buffer}
 use Rattle.script_run.specs.Lowering.{DriverRecord, Ended, mmio_program, if_set, end_of_reap, queue_block, with_driver_queue}
 use Rattle.script_run.specs.RawState.{RawState}
 use Rattle.script_run.proofs.Stands.{unreaped_of}
 use Rattle.script_run.proofs.TraceSteps.{tells, get_step}
+use Rattle.port_access.specs.Accesses.{bytes_or_zeros, mark_unless}
 
 -- a ring of the transmit queue without the two features
 abbrev pub plain_cfg : ℕ → RingCfg

@@ -9,13 +9,14 @@ use Rattle.vq_common.specs.declared.chain.Take.TheVariants as shows
 use Rattle.vq_common.specs.Chain.{ChainValue, Walked, Front, IsShown, walked}
 use Rattle.vq_common.specs.Piece.{keeps_rules, readable, room, scatter}
 use Rattle.vq_common.specs.Queue.{DeviceQueue, Given}
-use Rattle.vq_common.proofs.PieceLaws.{length-readable, length-scatter}
-use Rattle.vq_common.proofs.RuleFacts.{readable_len-le, rules_inside}
+use Rattle.vq_common.proofs.PieceLaws.{length-scatter}
+use Rattle.vq_common.proofs.RuleFacts.{rules_inside}
 use Rattle.vq_split_dev.specs.Walk.{split_walk, split_taken, split_areas_inside}
 use Rattle.vq_split_dev.specs.Give.{split_given}
 use Rattle.vq_split_dev.specs.Shown.{shown}
 use Rattle.dev_console.specs.Console.{ConsoleState, ConsoleAnswer, console_answer}
 use Rattle.dev_console.specs.Serve.{Serves}
+use Rattle.dev_console.proofs.ConsoleLaws.{console-le, readable_fits}
 use Rattle.script_run.specs.RawServe.{with_raw_queue, with_queue_signal, give_answer, serve_walked, serve_ring, serve_queue, may_serve}
 use Rattle.script_run.specs.RawState.{RawState, RawDevice, RawQueue}
 use Rattle.script_run.specs.ServeSteps.{raw_of, is_queue_served, shown_by, device_after, IsGivable, QueueGives, DeviceGives}
@@ -120,10 +121,6 @@ taken mem d s n c d2 holds shows device =
 pub taken_rules : (mem : List ℕ) (d : RawDevice) (s : ConsoleState) (n : ℕ) (c : ChainValue) (d2 : RawDevice) → IsTaken mem d s n c d2 → IsTrue (keeps_rules (length mem) c.pieces)
 taken_rules mem d s n c d2 is = (shown mem is.ring c is.shows).rules
 
--- it has at most 8,192 readable bytes
-pub readable-le : (mem : List ℕ) (ps : List Piece) → IsTrue (keeps_rules (length mem) ps) → length (readable mem ps) ≤ 8192
-readable-le mem ps rules = omega (arith, length-readable mem ps (rules_inside (length mem) ps rules), readable_len-le (length mem) ps rules)
-
 -- it may be given back to the queue that it was taken from
 pub taken_givable : (mem : List ℕ) (d : RawDevice) (s : ConsoleState) (n : ℕ) (c : ChainValue) (d2 : RawDevice) (mem2 bytes : List ℕ) → IsTaken mem d s n c d2 → mem2 ≡ scatter mem c.pieces bytes
     → (q2 : RawQueue) (ring2 : DeviceQueue) → slice_get d2.queues n ≡ Some q2 → q2.ring ≡ Some ring2 → IsGivable (length mem2) ring2 c.slots
@@ -170,18 +167,11 @@ taken_serves mem d s n c mem2 mem3 d2 d3 s2 len is serves gives =
     is.serves
     ∙ answered mem d s n c is.q is.ring (console_answer n (readable mem c.pieces) (room c.pieces) s.waiting s.console) mem2 mem3 d2 d3 s2 len is.device serves (gives q3 (split_taken is.ring c) now refl)
 
--- a chain adds at most its readable bytes to the console
-console-le : (n : ℕ) (read : List ℕ) (k : ℕ) (waiting console : List ℕ) → length (console_answer n read k waiting console).console ≤ length console + length read
-console-le n read k waiting console =
-    elim (n == 0) as (λ t.
-    let a : ConsoleAnswer = if t then record { written = take k waiting; waiting = drop k waiting; console = console } else record { written = []; waiting = waiting; console = console ++ read } in
-    length a.console ≤ length console + length read)
-    [ true ↦ omega arith | false ↦ omega (arith, length-append console read) ]
-
+-- it takes at most the room of its readable bytes
 pub taken_spares : (mem : List ℕ) (d : RawDevice) (s : ConsoleState) (n : ℕ) (c : ChainValue) (mem2 : List ℕ) (d2 : RawDevice) (s2 : ConsoleState) (len : ℕ)
     → IsTaken mem d s n c d2 → Serves (console_answer n (readable mem c.pieces) (room c.pieces) s.waiting s.console) c.pieces mem mem2 s s2 len → s.spare ≤ s2.spare + 8192
 taken_spares mem d s n c mem2 d2 s2 len is serves =
-    let few : length (readable mem c.pieces) ≤ 8192 = readable-le mem c.pieces (taken_rules mem d s n c d2 is) in
+    let few : length (readable mem c.pieces) ≤ 8192 = readable_fits mem c.pieces (taken_rules mem d s n c d2 is) in
     let more : length s2.console ≤ length s.console + length (readable mem c.pieces) =
     rw serves.console (console-le n (readable mem c.pieces) (room c.pieces) s.waiting s.console) in
     omega (arith, serves.spare)

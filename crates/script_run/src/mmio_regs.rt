@@ -4,6 +4,7 @@ ghost use Rattle.std.specs.Prelude.{◌≡◌, ⊤, [], ◌∷◌, codes};
 ghost use Rattle.script_run.specs.MmioTable.{register_at, register_for, is_queue_size};
 
 use bitflags::{Flag, Flags, bitflag_items};
+use vq_common::is_ring_size;
 use vt_types::MAX_QUEUE;
 
 /// Where the console's page begins (our own).
@@ -16,7 +17,7 @@ pub const PAGE_LEN: u64 = 0x1000;
 pub fn is_queue_size(size: u16) -> bool
     ensures { result ≡ is_queue_size size }
 {
-    size.is_power_of_two() && size <= MAX_QUEUE
+    is_ring_size(size) && size <= MAX_QUEUE
 }
 
 /// Bits of InterruptStatus and InterruptACK (VIRTIO 1.2, 4.2.2).

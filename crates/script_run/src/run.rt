@@ -31,6 +31,7 @@ fn run_operation(
 )
     requires runnable { IsRunnable (operation op.now) }
     requires room { REPLY_ROOM ≤ text.old.room }
+    requires pages { 4096 ≤ machine.old.pages }
     ensures { (added : List ℕ) × (text.new.bytes ≡ text.old.bytes ++ added) × RunsOperation number (operation op.now) machine.old.raw driver.old machine.new.raw driver.new added }
 {
     machine.begin();
@@ -51,6 +52,7 @@ fn run_line(
     requires runnable { IsRunnableLine (script_line line.now) }
     requires text_room { REPLY_ROOM ≤ text.old.room }
     requires console_room { 8192 ≤ machine.old.spare }
+    requires pages { 4096 ≤ machine.old.pages }
     ensures { (added : List ℕ) × (text.new.bytes ≡ text.old.bytes ++ added) × RunsLine number (script_line line.now) machine.old.raw driver.old machine.new.raw driver.new added }
 {
     match line {
@@ -59,11 +61,12 @@ fn run_line(
     }
 }
 
-/// Makes room for the text and the console bytes of a line.
+/// Makes room for the text, the console bytes and the pages of guest memory of a line.
 fn prepare(alloc: Global, machine: &mut Machine, text: &mut Text) -> Result<(), Stop>
     ensures text_room { OnOk result (REPLY_ROOM ≤ text.new.room) }
     ensures text { text.new.bytes ≡ text.old.bytes }
     ensures console_room { OnOk result (8192 ≤ machine.new.spare) }
+    ensures pages { OnOk result (4096 ≤ machine.new.pages) }
     ensures raw { machine.new.raw ≡ machine.old.raw }
     ensures memory { IfErr result (λ stop. stop ≡ Stop.Memory) }
 {

@@ -1,6 +1,7 @@
 //! The machine: guest memory and the console behind its MMIO page, one access or one event at a time.
 
 ghost use Rattle.std.specs.Prelude.{◌≡◌, ◌+◌, ◌≤◌, ◌^◌, IfOk, OnOk};
+ghost use Rattle.script_run.specs.Machine.{PAGES_OF_SERVE};
 ghost use Rattle.script_run.specs.RawServe.{raw_event};
 ghost use Rattle.script_run.specs.RawState.{MEMORY_LEN, new_raw_state};
 
@@ -30,8 +31,11 @@ impl Model for Machine {
 
     ghost Value = { MachineView };
 
-    ghost view = { λ m. record { raw = record { memory = m.memory; con = m.console; waiting = m.state.waiting; console = m.state.console }; count = m.count; spare = m.state.spare } };
+    ghost view = { λ m. record { raw = record { memory = m.memory.bytes; con = m.console; waiting = m.state.waiting; console = m.state.console }; count = m.count; spare = m.state.spare; pages = m.memory.spare } };
 }
+
+/// The most pages that one line may make: 4,096 by the accesses of its operation, and 22 by each of its 128 events.
+const PAGES_OF_LINE: u32 = 6912;
 
 /// How many bytes guest memory has.
 #[tactic(auto, unfolding(crate::specs::RawState::MEMORY_LEN))]
@@ -56,13 +60,16 @@ impl Machine {
         })
     }
 
-    /// Makes room for what one operation and its events may add to the console's bytes.
+    /// Makes room for what one line may add to the console's bytes, and for the pages of guest memory that it may make.
     pub fn reserve(&mut self, alloc: Global) -> Result<(), Memory>
         ensures raw { self.new.raw ≡ self.old.raw }
         ensures count { self.new.count ≡ self.old.count }
         ensures spare { self.old.spare ≤ self.new.spare }
         ensures ok { OnOk result (CONSOLE_ROOM ≤ self.new.spare) }
+        ensures pages { self.old.pages ≤ self.new.pages }
+        ensures paged { OnOk result (PAGES_OF_LINE ≤ self.new.pages) }
     {
+        self.memory.reserve(alloc, PAGES_OF_LINE)?;
         self.state.reserve(alloc)
     }
 
@@ -84,12 +91,14 @@ impl Machine {
         }
     }
 
-    /// An event happens. It adds at most 8,192 bytes to the console's.
+    /// An event happens. It adds at most 8,192 bytes to the console's, and makes at most 20 pages of guest memory.
     pub fn event(&mut self, e: &Event)
-        requires { 8192 ≤ self.old.spare }
+        requires console { 8192 ≤ self.old.spare }
+        requires pages { PAGES_OF_SERVE ≤ self.old.pages }
         ensures raw { self.new.raw ≡ raw_event self.old.raw e.now }
         ensures count { self.new.count ≡ self.old.count }
         ensures spare { self.old.spare ≤ self.new.spare + 8192 }
+        ensures pages { self.old.pages ≤ self.new.pages + PAGES_OF_SERVE }
     {
         match e {
             Event::Serve {
@@ -110,14 +119,14 @@ impl Machine {
 }
 
 impl Port for Machine {
-    ghost use Rattle.std.specs.Prelude.{◌≡◌, ◌-◌, ◌^◌};
+    ghost use Rattle.std.specs.Prelude.{◌≡◌};
     ghost use Rattle.script_run.specs.Machine.{MachineStep};
 
     ghost step = { MachineStep };
 
     ghost marking = { λ m m2. m2 ≡ m };
 
-    ghost credit = { λ _. 2 ^ 32 - 1 };
+    ghost credit = { λ m. m.pages };
 
     fn access(&mut self, a: &Access<'_>, room: &mut Room) -> Answer {
         self.count = self.count.saturating_add(1);

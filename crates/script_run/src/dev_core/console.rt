@@ -1,7 +1,8 @@
 //! The console behind its page.
 
-ghost use Rattle.std.specs.Prelude.{◌≡◌, ℕ, ◌%◌, ◌^◌, ◌<◌, Some, None, MatchOption, true, length, slice_get};
+ghost use Rattle.std.specs.Prelude.{◌≡◌, ℕ, ◌+◌, ◌≤◌, ◌%◌, ◌^◌, ◌<◌, Some, None, MatchOption, true, length, slice_get};
 ghost use Rattle.vq_common.specs.Chain.{walked, chain_value};
+ghost use Rattle.vq_common.specs.Pages.{PAGES_OF_GIVE};
 ghost use Rattle.vq_common.specs.Queue.{DeviceQueue};
 ghost use Rattle.vq_split_dev.specs.Give.{split_given};
 ghost use Rattle.script_run.specs.MmioTable.{load_of, store_of, queue_store, queue_number_max, queue_ready, on_selected, selected, change_at, kicked, cleared, store_status};
@@ -158,7 +159,7 @@ impl Console {
     /// device need a reset.
     pub fn take(&mut self, mem: &GuestMem, number: u16) -> Take
         requires { number < 2 }
-        ensures shows { (q : RawQueue) → slice_get self.old.queues number ≡ Some q → walked result ≡ shown_by mem.now q.ring }
+        ensures shows { (q : RawQueue) → slice_get self.old.queues number ≡ Some q → walked result ≡ shown_by mem.now.bytes q.ring }
         ensures device { (q : RawQueue) → slice_get self.old.queues number ≡ Some q → self.new ≡ device_after self.old number q (walked result) }
     {
         let front = self.queues[number as usize].take(mem);
@@ -171,8 +172,10 @@ impl Console {
     /// Gives a chain back to a queue with this many bytes written, and signals where the driver asks for it.
     pub fn give(&mut self, mem: &mut GuestMem, number: u16, chain: &Chain, len: u32)
         requires place { number < 2 }
-        requires ring { (q : RawQueue) (ring : DeviceQueue) → slice_get self.old.queues number ≡ Some q → q.ring ≡ Some ring → IsGivable (length mem.old) ring chain.now.slots }
-        ensures { (q : RawQueue) (ring : DeviceQueue) → slice_get self.old.queues number ≡ Some q → q.ring ≡ Some ring → DeviceGives (split_given mem.old ring (chain_value chain.now) len) self.old number q mem.new self.new }
+        requires ring { (q : RawQueue) (ring : DeviceQueue) → slice_get self.old.queues number ≡ Some q → q.ring ≡ Some ring → IsGivable (length mem.old.bytes) ring chain.now.slots }
+        requires pages { PAGES_OF_GIVE ≤ mem.old.spare }
+        ensures gives { (q : RawQueue) (ring : DeviceQueue) → slice_get self.old.queues number ≡ Some q → q.ring ≡ Some ring → DeviceGives (split_given mem.old.bytes ring (chain_value chain.now) len) self.old number q mem.new.bytes self.new }
+        ensures pages { mem.old.spare ≤ mem.new.spare + PAGES_OF_GIVE }
     {
         if self.queues[number as usize].give(mem, chain, len) {
             self.interrupt_status |= InterruptBits::USED_BUFFER.0;

@@ -1,7 +1,8 @@
 //! One queue of a page.
 
-ghost use Rattle.std.specs.Prelude.{is_some, ◌≡◌, ℕ, ◌+◌, ◌*◌, ◌/◌, ◌%◌, ◌^◌, Some, length};
+ghost use Rattle.std.specs.Prelude.{is_some, ◌≡◌, ℕ, ◌+◌, ◌*◌, ◌/◌, ◌%◌, ◌^◌, ◌≤◌, Some, length};
 ghost use Rattle.vq_common.specs.Chain.{walked, chain_value};
+ghost use Rattle.vq_common.specs.Pages.{PAGES_OF_GIVE};
 ghost use Rattle.vq_common.specs.Queue.{DeviceQueue};
 ghost use Rattle.vq_split_dev.specs.Give.{split_given};
 ghost use Rattle.script_run.specs.MmioTable.{queue_store, kicked, queue_ready, ring_of, set_ready, with_low, with_high};
@@ -114,7 +115,7 @@ impl QueueSlot {
 
     /// Takes the next chain from the ring. Where there is none the kick ends.
     pub fn take(&mut self, mem: &GuestMem) -> Take
-        ensures shows { walked result ≡ shown_by mem.now self.old.ring }
+        ensures shows { walked result ≡ shown_by mem.now.bytes self.old.ring }
         ensures queue { self.new ≡ after_showing self.old (walked result) }
     {
         let front = match &mut self.ring {
@@ -129,8 +130,10 @@ impl QueueSlot {
 
     /// Gives a chain back with this many bytes written, and answers whether to signal.
     pub fn give(&mut self, mem: &mut GuestMem, chain: &Chain, len: u32) -> bool
-        requires { (ring : DeviceQueue) → self.old.ring ≡ Some ring → IsGivable (length mem.old) ring chain.now.slots }
-        ensures { (ring : DeviceQueue) → self.old.ring ≡ Some ring → QueueGives (split_given mem.old ring (chain_value chain.now) len) self.old mem.new result self.new }
+        requires ring { (ring : DeviceQueue) → self.old.ring ≡ Some ring → IsGivable (length mem.old.bytes) ring chain.now.slots }
+        requires pages { PAGES_OF_GIVE ≤ mem.old.spare }
+        ensures gives { (ring : DeviceQueue) → self.old.ring ≡ Some ring → QueueGives (split_given mem.old.bytes ring (chain_value chain.now) len) self.old mem.new.bytes result self.new }
+        ensures pages { mem.old.spare ≤ mem.new.spare + PAGES_OF_GIVE }
     {
         match &mut self.ring {
             Some(ring) => ring.give(mem, chain, len),

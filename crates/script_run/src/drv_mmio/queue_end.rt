@@ -5,7 +5,7 @@ ghost use Rattle.vt_types.specs.Operation.{posted_buffer};
 ghost use Rattle.vt_types.specs.Program.{Gives, and_then};
 ghost use Rattle.vt_types.specs.Reply.{reply_value};
 ghost use Rattle.vq_common.specs.Buffer.{IsPostable};
-ghost use Rattle.vq_common.specs.Queue.{IsPlaced, new_driver_queue, slots_of};
+ghost use Rattle.vq_common.specs.Queue.{IsPlaced, new_driver_queue};
 ghost use Rattle.vq_split_drv.specs.Reap.{split_reap_program};
 ghost use Rattle.script_run.specs.MmioTable.{is_queue_size};
 ghost use Rattle.script_run.specs.DriverCalls.{GivesOnSet, GivesOnQueue};
@@ -13,7 +13,7 @@ ghost use Rattle.script_run.specs.Lowering.{post_refusal, post_queue, end_of_rea
 
 use std::alloc::Global;
 use std::marker::Model;
-use vq_common::{DriverEnd, Reaped, RingCfg};
+use vq_common::{DriverEnd, Reaped, RingCfg, slots_of};
 use vq_split_drv::SplitDriver;
 use vt_types::{MAX_QUEUE, Memory, Port, PostBuf, Reply, Room, Why};
 
@@ -38,13 +38,6 @@ impl Model for QueueEnd {
     ghost invariant = { λ e. IsEnd e.size e.end.queue e.end.greatest };
 }
 
-/// The slots that a buffer takes.
-fn slots(buf: &PostBuf) -> usize
-    ensures { result ≡ slots_of (posted_buffer buf.now) }
-{
-    if buf.indirect { 1 } else { buf.cuts.len() }
-}
-
 /// Why a buffer is refused by a queue of a size.
 fn refusal(end: &SplitDriver, size: u16, buf: &PostBuf) -> Option<Why>
     requires { size ≡ end.now.queue.cfg.size }
@@ -52,7 +45,7 @@ fn refusal(end: &SplitDriver, size: u16, buf: &PostBuf) -> Option<Why>
 {
     if end.has_tag(buf.tag) {
         Some(Why::Tag)
-    } else if usize::from(end.free()) < slots(buf) {
+    } else if end.free() < slots_of(buf) {
         Some(Why::Full)
     } else if buf.indirect && usize::from(size) < buf.cuts.len() {
         Some(Why::Range)

@@ -2,7 +2,7 @@ use Rattle.std.proofs.Common.{◌≡◌, Bool, true, false, None, sym, ◌∙◌
 use Rattle.std.specs.Prelude.{is_ok}
 use Rattle.vt_types.specs.Operation.{PostedBuffer, posted_buffer}
 use Rattle.vq_common.specs.Queue.{DriverQueue}
-use Rattle.vq_split_drv.specs.Cost.{cost}
+use Rattle.vq_split_drv.specs.Cost.{cost_or_nothing}
 use Rattle.script_run.specs.DriverCalls.{GivesOnSet}
 use Rattle.script_run.specs.Lowering.{post_queue, post_refusal, post_reply}
 use Rattle.script_run.proofs.DriverEnds.{post_on_set, refused_on_set}
@@ -13,7 +13,7 @@ returns-in-Some-clause-gives g c = λ bytes.
     refused_on_set g.P.Port.step g.P.Port.marking c.args.end.now.queue (posted_buffer c.args.buf.now) c.in-Some.why c.args.port.now (sym c.refusal.ensures ∙ c.in-Some.is)
 
 pub post-requires-clause-credit : goal.post-requires-clause-credit
-post-requires-clause-credit g c = omega (arith, cost c.args.end.now.queue (posted_buffer c.args.buf.now) c.requires.postable)
+post-requires-clause-credit g c = omega (arith, cost_or_nothing c.args.end.now.queue (posted_buffer c.args.buf.now) c.requires.postable)
 
 pub returns-then-is_ok-clause-gives : goal.returns-then-is_ok-clause-gives
 returns-then-is_ok-clause-gives g c = λ bytes.

@@ -2,4 +2,4 @@ use Rattle.std.proofs.Common.{rules}
 use Rattle.script_run.proofs.dev_core.queue_slot.QueueSlot.give.Goals as goal
 
 pub give-requires-clause-slots : goal.give-requires-clause-slots
-give-requires-clause-slots c = (c.requires c.in-Some.ring (search rules)).slots
+give-requires-clause-slots c = (c.requires.ring c.in-Some.ring (search rules)).slots
