@@ -1,5 +1,9 @@
 use Rattle.std.proofs.Common.{◌≤◌}
+use Rattle.ring_bench.specs.Ready.{IsReady}
 use Rattle.ring_bench.proofs.rings.Rings.carry.Given as goal
 
 abbrev pub invariant-rounds : goal.invariant-rounds
-invariant-rounds l = l.counts.buffers ≤ l.count
+invariant-rounds g l = record {
+  ready : IsReady (g.D.DriverEnd.queue l.self.guest.driver);
+  few : l.counts.buffers ≤ l.task.count;
+}
