@@ -1,9 +1,8 @@
 -- What the steps of serving a queue come to.
-use Rattle.std.proofs.Common.{◌≡◌, ℕ, zero, suc, ◌+◌, ◌≤◌, ◌==◌, List, [], ◌∷◌, ◌++◌, length, take, drop, Bool, true, false, IsTrue, Option, Some, None, refl, sym, ◌∙◌, ap, subst, arith, length-append}
-use Rattle.std.specs.Prelude.{is_some, ◌&&◌, nat_lt, option_map, slice_get, slice_set, if◌then◌else◌}
+use Rattle.std.proofs.Common.{◌≡◌, ℕ, zero, suc, ◌+◌, ◌≤◌, List, [], ◌∷◌, length, Bool, true, false, IsTrue, Option, Some, None, refl, sym, ◌∙◌, ap, subst, arith}
+use Rattle.std.specs.Prelude.{is_some, ◌&&◌, nat_lt, option_map, slice_get, slice_set}
 use Rattle.std.specs.Int.RustNames.{bit_or}
 use Rattle.vq_common.specs.declared.chain.Chain.{Chain}
-use Rattle.vq_common.specs.declared.chain.Piece.{Piece}
 use Rattle.vq_common.specs.declared.chain.Take.{Take}
 use Rattle.vq_common.specs.declared.chain.Take.TheVariants as shows
 use Rattle.vq_common.specs.Chain.{ChainValue, Walked, Front, IsShown, walked}
