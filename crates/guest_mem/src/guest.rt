@@ -1,6 +1,6 @@
 //! The memory of a guest.
 
-ghost use Rattle.std.specs.Prelude.{◌≡◌, ◌+◌, ◌*◌, ◌/◌, ◌≤◌, ◌<◌, ◌^◌, ◌↔◌, false, length, replicate, IsTrue, IsOk, IfOk, OnOk};
+ghost use Rattle.std.specs.Prelude.{◌≡◌, ◌+◌, ◌*◌, ◌/◌, ◌≤◌, ◌<◌, ◌^◌, ◌↔◌, false, length, max, replicate, IsTrue, IsOk, IfOk, OnOk};
 ghost use Rattle.guest_mem.specs.Memory.{IsByteList};
 ghost use Rattle.guest_mem.specs.Pages.{pages_made};
 ghost use Rattle.vt_types.specs.Access.{pages_touched};
@@ -95,12 +95,13 @@ impl GuestMem {
         (self.arena.count() - 1) as u32
     }
 
-    /// Sets pages aside for writes, so that at least `pages` are spare. After want of memory the spare pages may have
-    /// risen, and all else is as it was.
+    /// Sets pages aside for writes, so that at least `pages` are spare, and no more than there were or these. After want of
+    /// memory the spare pages may have risen, and all else is as it was.
     pub fn reserve(&mut self, alloc: Global, pages: u32) -> Result<(), Memory>
         ensures bytes { self.new.bytes ≡ self.old.bytes }
         ensures made { self.new.made ≡ self.old.made }
         ensures spare { self.old.spare ≤ self.new.spare }
+        ensures most { self.new.spare ≤ max self.old.spare pages }
         ensures ok { OnOk result (pages ≤ self.new.spare) }
         ensures enough { pages ≤ self.old.spare → IsOk result }
     {
@@ -109,7 +110,7 @@ impl GuestMem {
     }
 
     /// The index of the first byte of a range that is inside.
-    #[inline]
+    #[inline(always)]
     fn start_of(&self, addr: u64, count: usize) -> Result<usize, Outside>
         ensures cause { IsOk result ↔ (addr + count ≤ length self.now.bytes) }
         ensures value { IfOk result (λ at. at ≡ addr) }

@@ -11,6 +11,7 @@ use guest_mem::{GuestMem, Outside};
 use vt_types::{Access, Answer, Room};
 
 /// The answer to a put or a zeroing: it was done, or its range passes the end.
+#[inline(always)]
 fn done(put: Result<(), Outside>) -> Answer
     ensures inside { OnOk put (result ≡ Done) }
     ensures outside { OnErr put (result ≡ PastTheEnd) }
@@ -22,6 +23,7 @@ fn done(put: Result<(), Outside>) -> Answer
 }
 
 /// Fills a room with bytes of memory. The room stays as it is where they pass its end.
+#[inline(always)]
 fn get(memory: &GuestMem, addr: u64, count: u16, room: &mut Room) -> Answer
     requires { count ≤ LONGEST_ACCESS }
     ensures answer { result ≡ (if nat_le (addr + count) (length memory.now.bytes) then Got else PastTheEnd) }
@@ -39,6 +41,7 @@ fn get(memory: &GuestMem, addr: u64, count: u16, room: &mut Room) -> Answer
 /// bytes are in the room.
 ///
 /// Memory has to have a spare page for each page that the access touches, so that it can make those that were not made.
+#[inline(always)]
 pub fn access(memory: &mut GuestMem, a: &Access<'_>, room: &mut Room) -> Answer
     requires limits { IsWithinLimits (access_value a.now) }
     requires pages { access_cost (access_value a.now) ≤ memory.old.spare }

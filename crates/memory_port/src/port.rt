@@ -24,6 +24,7 @@ impl Port for MemoryPort {
 
     ghost credit = { λ p. p.memory.spare };
 
+    #[inline(always)]
     fn access(&mut self, a: &Access<'_>, room: &mut Room) -> Answer {
         access(&mut self.memory, a, room)
     }

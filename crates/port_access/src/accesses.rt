@@ -15,6 +15,7 @@ use vt_types::{Access, Answer, Port, Room};
 mod tests;
 
 /// Puts 1 to 8,192 bytes; nobody looks at the answer.
+#[inline(always)]
 pub fn put<P: Port>(port: &mut P, addr: u64, bytes: &[u8], room: &mut Room)
     requires some { 1 ≤ length bytes.now }
     requires few { length bytes.now ≤ 8192 }
@@ -49,6 +50,7 @@ pub fn put_u16<P: Port>(port: &mut P, addr: u64, number: u16, room: &mut Room)
 }
 
 /// Zeros in the room.
+#[cold]
 fn fill_zeros(room: &mut Room, count: u16)
     requires { count ≤ 8192 }
     ensures { room.new.items ≡ replicate count 0 }
@@ -60,6 +62,7 @@ fn fill_zeros(room: &mut Room, count: u16)
 }
 
 /// Gets 1 to 8,192 bytes into the room: zeros where the answer has another form, or another number of bytes comes.
+#[inline(always)]
 pub fn get<P: Port>(port: &mut P, addr: u64, count: u16, room: &mut Room)
     requires some { 1 ≤ count }
     requires few { count ≤ 8192 }
@@ -75,6 +78,7 @@ pub fn get<P: Port>(port: &mut P, addr: u64, count: u16, room: &mut Room)
 }
 
 /// Gets the `len` bytes that a device wrote, at most 8,192, into the room. No access is made where it wrote none.
+#[inline(always)]
 pub fn get_written<P: Port>(port: &mut P, addr: u64, len: u16, room: &mut Room)
     requires { len ≤ 8192 }
     ensures gives { Gives P.step P.marking (bytes_program addr len) port.old room.new.items port.new }

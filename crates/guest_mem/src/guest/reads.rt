@@ -11,7 +11,7 @@ use vt_types::Room;
 
 impl GuestMem {
     /// Fills `room` with the bytes from `addr` on.
-    #[inline]
+    #[inline(always)]
     pub fn read(&self, addr: u64, room: &mut [u8]) -> Result<(), Outside>
         ensures cause { IsOk result ↔ (addr + length room.old ≤ length self.now.bytes) }
         ensures ok { OnOk result (room.new ≡ part self.now.bytes addr (length room.old)) }
@@ -23,6 +23,7 @@ impl GuestMem {
     }
 
     /// Adds the `count` bytes from `addr` on to what is in a room, which has space for them.
+    #[inline]
     pub fn read_onto(&self, addr: u64, count: usize, room: &mut Room) -> Result<(), Outside>
         requires { length room.old.items + count ≤ 8192 }
         ensures cause { IsOk result ↔ (addr + count ≤ length self.now.bytes) }
@@ -35,6 +36,7 @@ impl GuestMem {
     }
 
     /// Fills a room with the `count` bytes from `addr` on, of which there are at most 8,192.
+    #[inline]
     pub fn read_into(&self, addr: u64, count: usize, room: &mut Room) -> Result<(), Outside>
         requires { count ≤ 8192 }
         ensures cause { IsOk result ↔ (addr + count ≤ length self.now.bytes) }
@@ -48,7 +50,7 @@ impl GuestMem {
     }
 
     /// The bytes from `at` on, all of them in one page.
-    #[inline]
+    #[inline(always)]
     fn bytes_in_page(&self, at: usize, count: usize) -> &[u8]
         requires some { 0 < count }
         requires inside { at + count ≤ length self.now.bytes }
@@ -62,7 +64,7 @@ impl GuestMem {
     }
 
     /// Fills `room` with bytes that are inside.
-    #[inline]
+    #[inline(always)]
     pub(super) fn get(&self, at: usize, room: &mut [u8])
         requires fits { at + length room.old < 2 ^ 64 }
         requires inside { at + length room.old ≤ length self.now.bytes }
@@ -76,6 +78,7 @@ impl GuestMem {
     }
 
     /// Fills `room`, page by page.
+    #[cold]
     fn get_by_pages(&self, at: usize, room: &mut [u8])
         requires fits { at + length room.old < 2 ^ 64 }
         requires inside { at + length room.old ≤ length self.now.bytes }
@@ -90,8 +93,24 @@ impl GuestMem {
         }
     }
 
-    /// Adds bytes that are inside to what is in a room, page by page.
+    /// Adds bytes that are inside to what is in a room.
+    #[inline]
     fn append(&self, at: usize, count: usize, room: &mut Room)
+        requires fits { at + count < 2 ^ 64 }
+        requires inside { at + count ≤ length self.now.bytes }
+        requires space { length room.old.items + count ≤ 8192 }
+        ensures { room.new.items ≡ room.old.items ++ part self.now.bytes at count }
+    {
+        if is_in_one_page(at, count) {
+            self.append_in_page(at, count, room);
+        } else {
+            self.append_by_pages(at, count, room);
+        }
+    }
+
+    /// Adds bytes that are inside to what is in a room, page by page.
+    #[cold]
+    fn append_by_pages(&self, at: usize, count: usize, room: &mut Room)
         requires fits { at + count < 2 ^ 64 }
         requires inside { at + count ≤ length self.now.bytes }
         requires space { length room.old.items + count ≤ 8192 }
@@ -106,7 +125,7 @@ impl GuestMem {
     }
 
     /// Adds the bytes from `at` on, all of them in one page, to what is in a room.
-    #[inline]
+    #[inline(always)]
     fn append_in_page(&self, at: usize, count: usize, room: &mut Room)
         requires some { 0 < count }
         requires inside { at + count ≤ length self.now.bytes }

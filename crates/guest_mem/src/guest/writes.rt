@@ -13,7 +13,7 @@ use byteorder::{BigEndian, ByteOrder};
 
 impl GuestMem {
     /// Puts `bytes` from `addr` on. The pages of the range that were not made are made, of the spare ones.
-    #[inline]
+    #[inline(always)]
     pub fn write(&mut self, addr: u64, bytes: &[u8]) -> Result<(), Outside>
         requires { needed self.old addr (length bytes.now) ≤ self.old.spare }
         ensures cause { IsOk result ↔ (addr + length bytes.now ≤ length self.old.bytes) }
@@ -64,7 +64,7 @@ impl GuestMem {
     }
 
     /// Makes the pages of a range that were not made.
-    #[inline]
+    #[inline(always)]
     fn make(&mut self, at: usize, count: usize)
         requires fits { at + count < 2 ^ 64 }
         requires inside { at / 4096 + pages_touched at count ≤ length self.old.made }
@@ -82,6 +82,7 @@ impl GuestMem {
     }
 
     /// Makes those of `count` pages from page `first` on that were not made.
+    #[cold]
     fn make_pages(&mut self, first: usize, count: usize)
         requires fits { first + count < 2 ^ 64 }
         requires inside { first + count ≤ length self.old.made }
@@ -96,7 +97,7 @@ impl GuestMem {
     }
 
     /// Makes a page if it was not made.
-    #[inline]
+    #[inline(always)]
     fn make_page(&mut self, page: usize)
         requires inside { page < length self.old.made }
         requires spare { absent self.old.made page 1 ≤ self.old.spare }
@@ -110,7 +111,7 @@ impl GuestMem {
     }
 
     /// Puts bytes into pages that were made.
-    #[inline]
+    #[inline(always)]
     fn put(&mut self, at: usize, bytes: &[u8])
         requires fits { at + length bytes.now < 2 ^ 64 }
         requires inside { at + length bytes.now ≤ length self.old.bytes }
@@ -125,6 +126,7 @@ impl GuestMem {
     }
 
     /// Puts bytes into pages that were made, page by page.
+    #[cold]
     fn put_by_pages(&mut self, at: usize, bytes: &[u8])
         requires fits { at + length bytes.now < 2 ^ 64 }
         requires inside { at + length bytes.now ≤ length self.old.bytes }
@@ -140,7 +142,7 @@ impl GuestMem {
     }
 
     /// Puts bytes into a page that was made.
-    #[inline]
+    #[inline(always)]
     fn put_in_page(&mut self, at: usize, bytes: &[u8])
         requires inside { at + length bytes.now ≤ length self.old.bytes }
         requires within { at % 4096 + length bytes.now ≤ 4096 }

@@ -1,6 +1,6 @@
 use Rattle.std.proofs.Common.{◌≡◌, ◌-◌, ◌≤◌, ◌++◌}
 use Rattle.guest_mem.specs.Memory.{part}
-use Rattle.guest_mem.proofs.guest.GuestMem.append.Given as goal
+use Rattle.guest_mem.proofs.guest.GuestMem.append_by_pages.Given as goal
 
 abbrev pub invariant-pages : goal.invariant-pages
 invariant-pages l = record {

@@ -1,7 +1,7 @@
 use Rattle.std.proofs.Common.{◌+◌, ◌++◌, ℕ, List, length, ◌∙◌, ap, arith, append_assoc, length-append}
 use Rattle.guest_mem.specs.Memory.{part}
 use Rattle.guest_mem.proofs.Parts.{length-part, part-append-part}
-use Rattle.guest_mem.proofs.guest.GuestMem.append.Goals as goal
+use Rattle.guest_mem.proofs.guest.GuestMem.append_by_pages.Goals as goal
 
 pub append_in_page-requires-clause-space : goal.append_in_page-requires-clause-space
 append_in_page-requires-clause-space c =
