@@ -37,7 +37,7 @@ impl<E: DeviceEnd + Drop> Host<E> {
         };
         chain.gather(memory, &mut self.room);
         chain.scatter(memory, self.room.as_slice());
-        let written = chain.readable_len().min(chain.room());
+        let written = chain.room().min(self.room.len() as u32);
         let _signals = self.device.give(memory, &chain, written);
         true
     }

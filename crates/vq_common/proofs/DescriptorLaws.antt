@@ -1,5 +1,5 @@
 -- Descriptors that were written are read.
-use Rattle.std.proofs.Common.{◌≡◌, ℕ, ◌+◌, ◌*◌, ◌^◌, ◌<◌, ◌≤◌, List, [], ◌++◌, length, drop, refl, ◌∙◌, ap, arith}
+use Rattle.std.proofs.Common.{◌≡◌, ℕ, ◌+◌, ◌*◌, ◌^◌, ◌<◌, ◌≤◌, List, [], ◌∷◌, ◌++◌, length, drop, refl, ◌∙◌, ap, arith}
 use Rattle.std.proofs.Math.Seq.{drop-append_seam}
 use Rattle.byteorder.specs.Endian.{little_number, little_bytes}
 use Rattle.byteorder.specs.Numbers.{little_number-reads_back}
@@ -11,6 +11,16 @@ use Rattle.vq_common.specs.declared.descriptor.Descriptor.{Descriptor}
 use Rattle.vq_common.specs.declared.packed_descriptor.PackedDescriptor.{PackedDescriptor}
 use Rattle.vq_common.specs.Descriptor.{descriptor_in, descriptor_bytes, descriptor_at}
 use Rattle.vq_common.specs.PackedDescriptor.{packed_descriptor_in, packed_descriptor_bytes, packed_descriptor_at}
+
+same_cell : (x y : ℕ) (xs ys : List ℕ) → x ≡ y → xs ≡ ys → x ∷ xs ≡ y ∷ ys
+same_cell x y xs ys e f = ap (λ (n : ℕ). n ∷ xs) e ∙ ap (λ (ns : List ℕ). y ∷ ns) f
+
+-- the eight bytes of a number of 32 bits and, above it, two of 16
+pub half_bytes : (len a b : ℕ) → len < 2 ^ 32 → a < 2 ^ 16 → b < 2 ^ 16
+    → little_bytes 8 (len + 2 ^ 32 * (a + 2 ^ 16 * b)) ≡ little_bytes 4 len ++ (little_bytes 2 a ++ little_bytes 2 b)
+half_bytes len a b h i j =
+    same_cell _ _ _ _ (omega arith) (same_cell _ _ _ _ (omega arith) (same_cell _ _ _ _ (omega arith) (same_cell _ _ _ _ (omega arith)
+    (same_cell _ _ _ _ (omega arith) (same_cell _ _ _ _ (omega arith) (same_cell _ _ _ _ (omega arith) (same_cell _ _ _ _ (omega arith) refl)))))))
 
 -- the fields of a descriptor fit their widths
 pub record Fits (d : Descriptor) : Type 0 where

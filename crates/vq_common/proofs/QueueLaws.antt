@@ -1,10 +1,12 @@
 -- The sizes of a ring, and unreaped buffers of two lists.
-use Rattle.std.proofs.Common.{◌≡◌, ℕ, zero, suc, ◌+◌, ◌*◌, ◌/◌, ◌^◌, ◌≤◌, List, [], ◌∷◌, ◌++◌, Bool, true, false, inl, inr, refl, sym, ◌∙◌, ap, arith}
+use Rattle.std.proofs.Common.{◌≡◌, ℕ, zero, suc, ◌+◌, ◌-◌, ◌*◌, ◌/◌, ◌%◌, ◌^◌, bit_and, ◌≤◌, List, [], ◌∷◌, ◌++◌, Bool, true, false, inl, inr, refl, sym, ◌∙◌, ap, arith}
 use Rattle.std.specs.Prelude.{◌||◌, ◌&&◌, ◌==◌, IsTrue, nat_le}
 use Rattle.std.specs.Int as int
 use Rattle.std.specs.Bool.{beq}
 use Rattle.std.proofs.lemmas.Bool.{and_parts, and_right, cases_lt}
 use Rattle.std.proofs.lemmas.Bool.Decides.{nat_tests}
+use Rattle.std.proofs.lemmas.Grind.{bit_length}
+use Rattle.std.proofs.lemmas.Nat.{and_mask}
 use Rattle.vq_common.specs.Queue.{Unreaped, is_ring_size, slots_of_all, holds_tag}
 
 -- two tests answer the same up to a number
@@ -64,6 +66,27 @@ pub ring_size_facts : (n : ℕ) → IsTrue (is_ring_size n) → IsRingSize n
 ring_size_facts n test =
     let most : n ≤ 1024 = grind (arith, nat_tests) in
     record { some = grind (arith, nat_tests); few = most; divides = quotient n (ring_size_divides n most test) }
+
+-- each size is the power of two whose exponent is the number of bits of the size less one
+abbrev is_power : ℕ → Bool
+is_power n = 2 ^ bit_length 128 (n - 1) == n
+
+power : (n : ℕ) → IsTrue (is_power n) → 2 ^ bit_length 128 (n - 1) ≡ n
+power n test = grind (arith, nat_tests)
+
+ring_size_is_power : (n : ℕ) → n ≤ 1024 → IsTrue (is_ring_size n) → IsTrue (is_power n)
+ring_size_is_power n few test =
+    let same : is_ring_size n ≡ (is_ring_size n && is_power n) = agree_at is_ring_size (λ k. is_ring_size k && is_power k) 1024 n few refl in
+    let (size, whole) = and_parts (is_ring_size n) (is_power n) (sym same ∙ test) in
+    whole
+
+-- the low bits of an index are its place in a ring
+pub masked : (index size : ℕ) → IsTrue (is_ring_size size) → bit_and index (size - 1) ≡ index % size
+masked index size test =
+    let k : ℕ = bit_length 128 (size - 1) in
+    let most : size ≤ 1024 = grind (arith, nat_tests) in
+    let whole : 2 ^ k ≡ size = power size (ring_size_is_power size most test) in
+    ap (λ (n : ℕ). bit_and index (n - 1)) (sym whole) ∙ and_mask index k ∙ ap (λ (n : ℕ). index % n) whole
 
 or_assoc : (a b c : Bool) → (a || (b || c)) ≡ ((a || b) || c)
 or_assoc true b c = refl

@@ -1,4 +1,4 @@
-use Rattle.std.specs.Prelude.{◌≡◌, ℕ, ◌≤◌, List, Bool, IsTrue, Option, Some, None, if◌then◌else◌}
+use Rattle.std.specs.Prelude.{◌≡◌, ℕ, ◌≤◌, List, Bool, true, false, IsTrue, Option, Some, None, if◌then◌else◌}
 use Rattle.arrayvec.specs.ArrayVec.{ArrayVec}
 use Rattle.vq_common.specs.declared.chain.Piece.{Piece}
 use Rattle.vq_common.specs.declared.chain.Chain.{Chain}
@@ -29,6 +29,11 @@ abbrev pub walked : Take → Walked
 walked take.Empty = Empty
 walked take.Bad = Bad
 walked (take.Front c) = Front (chain_value c)
+
+-- what is shown where a chain was found, or was not
+abbrev pub shown_if : Bool → Chain → Walked
+shown_if true c = Front (chain_value c)
+shown_if false c = Bad
 
 -- what is shown of a chain with these pieces: they keep the rules, or the chain is malformed
 abbrev pub chain_if_valid : ℕ → ℕ → ℕ → Option (List Piece) → Walked

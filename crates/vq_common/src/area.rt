@@ -8,6 +8,7 @@ use byteorder::{ByteOrder, LittleEndian};
 use guest_mem::GuestMem;
 
 /// The address at an offset of an area. It has 64 bits, since it is inside memory.
+#[inline(always)]
 fn address(mem: &GuestMem, area: u64, offset: u64) -> u64
     requires { area + offset ≤ length mem.now.bytes }
     ensures { result ≡ area + offset }
@@ -18,6 +19,7 @@ fn address(mem: &GuestMem, area: u64, offset: u64) -> u64
 }
 
 /// The `N` bytes at an offset of an area.
+#[inline(always)]
 pub fn bytes_at<const N: usize>(mem: &GuestMem, area: u64, offset: u64) -> [u8; N]
     requires { area + offset + N ≤ length mem.now.bytes }
     ensures { result ≡ part mem.now.bytes (area + offset) N }
@@ -28,6 +30,7 @@ pub fn bytes_at<const N: usize>(mem: &GuestMem, area: u64, offset: u64) -> [u8; 
 }
 
 /// The 16-bit number at an offset of an area, its lowest byte first.
+#[inline(always)]
 pub fn le16_at(mem: &GuestMem, area: u64, offset: u64) -> u16
     requires { area + offset + 2 ≤ length mem.now.bytes }
     ensures { result ≡ le16_at mem.now.bytes (area + offset) }
@@ -36,6 +39,7 @@ pub fn le16_at(mem: &GuestMem, area: u64, offset: u64) -> u16
 }
 
 /// Puts at most 4,096 bytes at an offset of an area. It makes at most `PAGES_OF_PUT` pages of memory.
+#[inline(always)]
 pub fn put(mem: &mut GuestMem, area: u64, offset: u64, bytes: &[u8])
     requires small { length bytes.now ≤ 4096 }
     requires inside { area + offset + length bytes.now ≤ length mem.old.bytes }
@@ -48,6 +52,7 @@ pub fn put(mem: &mut GuestMem, area: u64, offset: u64, bytes: &[u8])
 }
 
 /// Puts a 16-bit number at an offset of an area, its lowest byte first. It makes at most `PAGES_OF_PUT` pages of memory.
+#[inline(always)]
 pub fn put_le16(mem: &mut GuestMem, area: u64, offset: u64, value: u16)
     requires inside { area + offset + 2 ≤ length mem.old.bytes }
     requires pages { PAGES_OF_PUT ≤ mem.old.spare }

@@ -46,6 +46,7 @@ pub enum Take {
 }
 
 /// Writes the first bytes, at most `len`, over memory from `addr` on, and answers how many they are.
+#[inline(always)]
 fn write_piece(mem: &mut GuestMem, addr: u64, len: u32, bytes: &[u8]) -> usize
     requires small { len ≤ 4096 }
     requires inside { addr + len ≤ length mem.old.bytes }
@@ -85,6 +86,7 @@ impl Chain {
     }
 
     /// Fills a room with the bytes of the readable pieces, one after the other.
+    #[inline(always)]
     pub fn gather(&self, mem: &GuestMem, room: &mut Room)
         requires { IsTrue (keeps_rules (length mem.now.bytes) self.now.pieces.items) }
         ensures { room.new.items ≡ readable mem.now.bytes self.now.pieces.items }
@@ -99,6 +101,7 @@ impl Chain {
 
     /// Writes bytes over the writable pieces in order, as many as there are and as there is room for. It makes at most
     /// `PAGES_OF_SCATTER` pages of memory.
+    #[inline(always)]
     pub fn scatter(&self, mem: &mut GuestMem, bytes: &[u8])
         requires rules { IsTrue (keeps_rules (length mem.old.bytes) self.now.pieces.items) }
         requires pages { PAGES_OF_SCATTER ≤ mem.old.spare }

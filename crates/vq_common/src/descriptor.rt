@@ -1,6 +1,7 @@
 //! Descriptors of a split ring (VIRTIO 1.2, 2.7.5).
 
-ghost use Rattle.std.specs.Prelude.{⊤, ◌≡◌, ◌+◌, ◌*◌, ◌≤◌, [], ◌∷◌, Option, Some, None, IfSome, IsSome, ◌↔◌, codes, length};
+ghost use Rattle.std.specs.Prelude.{⊤, ◌≡◌, ◌+◌, ◌*◌, ◌≤◌, [], ◌∷◌, ◌++◌, Option, Some, None, IfSome, IsSome, ◌↔◌, codes, length};
+ghost use Rattle.byteorder.specs.Endian.{little_bytes};
 ghost use Rattle.guest_mem.specs.Memory.{part};
 ghost use Rattle.vq_common.specs.Descriptor.{descriptor_at, descriptor_bytes, flags_of, has_next, is_write, is_indirect, piece_of};
 
@@ -79,6 +80,15 @@ pub fn place_bytes(mem: &GuestMem, table: u64, place: u16) -> Option<[u8; 16]>
     }
 }
 
+/// The number whose eight bytes, the lowest first, are those of a number of 32 bits and then of two of 16.
+#[tactic(auto, using(crate::proofs::DescriptorLaws::half_bytes))]
+#[inline]
+pub fn half(len: u32, first: u16, second: u16) -> u64
+    ensures { little_bytes 8 result ≡ little_bytes 4 len ++ (little_bytes 2 first ++ little_bytes 2 second) }
+{
+    u64::from(len) + 0x1_0000_0000 * (u64::from(first) + 0x1_0000 * u64::from(second))
+}
+
 impl Descriptor {
     /// The descriptor at a place of a table. None exactly where its 16 bytes are not inside memory.
     pub fn read(mem: &GuestMem, table: u64, place: u16) -> Option<Descriptor>
@@ -100,9 +110,7 @@ impl Descriptor {
     {
         let mut bytes = [0u8; 16];
         LittleEndian::write_u64(&mut bytes, self.addr);
-        LittleEndian::write_u32(&mut bytes[8..], self.len);
-        LittleEndian::write_u16(&mut bytes[12..], self.flags);
-        LittleEndian::write_u16(&mut bytes[14..], self.next);
+        LittleEndian::write_u64(&mut bytes[8..], half(self.len, self.flags, self.next));
         bytes
     }
 

@@ -29,5 +29,5 @@ pub use indirect::{add_table, indirect_chain};
 pub use packed_descriptor::{PackedDescriptor, PackedFlags};
 pub use pieces::Pieces;
 pub use position::Position;
-pub use rules::{are_pieces_valid, is_inside, is_ring_size};
+pub use rules::{are_pieces_valid, is_inside, is_ring_size, ring_place};
 pub use walk::WalkStep;

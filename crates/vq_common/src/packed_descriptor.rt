@@ -5,7 +5,7 @@ ghost use Rattle.vq_common.specs.Descriptor.{has_next, is_indirect};
 ghost use Rattle.vq_common.specs.PackedDescriptor.{available_flags, packed_descriptor_at, packed_descriptor_bytes, packed_descriptor_in, is_available, is_used, packed_piece_of};
 
 use crate::chain::Piece;
-use crate::descriptor::place_bytes;
+use crate::descriptor::{half, place_bytes};
 use bitflags::{Flag, Flags, bitflag_items};
 use byteorder::{ByteOrder, LittleEndian};
 use guest_mem::GuestMem;
@@ -89,9 +89,7 @@ impl PackedDescriptor {
     {
         let mut bytes = [0u8; 16];
         LittleEndian::write_u64(&mut bytes, self.addr);
-        LittleEndian::write_u32(&mut bytes[8..], self.len);
-        LittleEndian::write_u16(&mut bytes[12..], self.id);
-        LittleEndian::write_u16(&mut bytes[14..], self.flags);
+        LittleEndian::write_u64(&mut bytes[8..], half(self.len, self.id, self.flags));
         bytes
     }
 

@@ -1,7 +1,7 @@
 //! The rules on the size of a ring and on the pieces of a chain (our own, but for the order of pieces: VIRTIO 1.2,
 //! 2.7.4.2).
 
-ghost use Rattle.std.specs.Prelude.{◌≡◌, ◌+◌, nat_le};
+ghost use Rattle.std.specs.Prelude.{◌≡◌, ◌+◌, ◌%◌, IsTrue, nat_le};
 ghost use Rattle.vq_common.specs.Piece.{is_piece, keeps_rules};
 ghost use Rattle.vq_common.specs.Queue.{is_ring_size};
 
@@ -15,6 +15,16 @@ pub fn is_ring_size(size: u16) -> bool
     ensures { result ≡ is_ring_size size }
 {
     size.is_power_of_two() && size <= GREATEST_RING
+}
+
+/// The place of a split ring of `size` descriptors at which an element with this index lies.
+#[tactic(auto, using(crate::proofs::QueueLaws::masked, crate::proofs::QueueLaws::ring_size_facts))]
+#[inline]
+pub fn ring_place(index: u16, size: u16) -> u16
+    requires { IsTrue (is_ring_size size) }
+    ensures { result ≡ index % size }
+{
+    index & (size - 1)
 }
 
 /// Whether `len` bytes from `addr` on lie inside a memory of `memory` bytes.

@@ -25,6 +25,7 @@ pub enum WalkStep {
 impl WalkStep {
     /// Takes one step of a walk: reads the descriptor at a place of a table of `count` descriptors, and adds the piece that
     /// it names unless it names a table.
+    #[inline(always)]
     pub fn take(
         mem: &GuestMem,
         table: u64,

@@ -1,7 +1,7 @@
 //! The chain that begins at a position of the ring.
 
 ghost use Rattle.std.specs.Prelude.{◌≡◌, ◌+◌, ◌*◌, ◌<◌, ◌≤◌, [], false, length};
-ghost use Rattle.vq_common.specs.Chain.{chain_if_valid, walked};
+ghost use Rattle.vq_common.specs.Chain.{chain_if_valid, shown_if, walked};
 ghost use Rattle.vq_common.specs.Descriptor.{is_indirect};
 ghost use Rattle.vq_common.specs.PackedDescriptor.{packed_descriptor_at};
 ghost use Rattle.vq_packed_dev.specs.Walk.{packed_chain_shown, chain_with, pieces_of_table};
@@ -112,6 +112,29 @@ fn add_pieces(
     }
 }
 
+/// Finds the chain that begins at a position, where `chain` has no pieces yet, and answers whether there is one that keeps
+/// the rules.
+fn find_chain(
+    mem: &GuestMem,
+    cfg: &RingCfg,
+    position: Position,
+    first: PackedDescriptor,
+    chain: &mut Chain,
+) -> bool
+    requires inside { cfg.now.desc + 16 * cfg.now.size ≤ length mem.now.bytes }
+    requires place { position.place < cfg.now.size }
+    requires first { first ≡ packed_descriptor_at mem.now.bytes cfg.now.desc position.place }
+    requires none { chain.old.pieces.items ≡ [] }
+    ensures { shown_if result chain.new ≡ packed_chain_shown mem.now.bytes cfg.now position.place }
+{
+    let Some(end) = add_pieces(mem, cfg, position, first, &mut chain.pieces) else {
+        return false;
+    };
+    chain.id = end.id;
+    chain.slots = end.slots;
+    are_pieces_valid(mem.len(), chain.pieces.as_slice())
+}
+
 /// What the ring shows at a position with an available descriptor: the chain that begins there, or something malformed.
 pub fn chain_at(mem: &GuestMem, cfg: &RingCfg, position: Position, first: PackedDescriptor) -> Take
     requires inside { cfg.now.desc + 16 * cfg.now.size ≤ length mem.now.bytes }
@@ -119,12 +142,13 @@ pub fn chain_at(mem: &GuestMem, cfg: &RingCfg, position: Position, first: Packed
     requires first { first ≡ packed_descriptor_at mem.now.bytes cfg.now.desc position.place }
     ensures { walked result ≡ packed_chain_shown mem.now.bytes cfg.now position.place }
 {
-    let mut pieces = ArrayVec::new();
-    let Some(ChainEnd { id, slots }) = add_pieces(mem, cfg, position, first, &mut pieces) else {
-        return Take::Bad;
+    let mut chain = Chain {
+        id: first.id,
+        slots: 0,
+        pieces: ArrayVec::new(),
     };
-    if are_pieces_valid(mem.len(), pieces.as_slice()) {
-        Take::Front(Chain { id, slots, pieces })
+    if find_chain(mem, cfg, position, first, &mut chain) {
+        Take::Front(chain)
     } else {
         Take::Bad
     }

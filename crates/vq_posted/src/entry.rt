@@ -8,13 +8,13 @@ use arrayvec::ArrayVec;
 /// A buffer that was posted and not yet reaped.
 #[derive(Drop)]
 pub struct Posted {
+    /// Its descriptors, the head first. A buffer of a packed ring has its id alone here.
+    pub descriptors: ArrayVec<u16, 8>,
     pub tag: u16,
     /// How many slots of the ring it takes.
     pub slots: u16,
     /// How many of its bytes the device reads.
     pub readable: u16,
-    /// Its descriptors, the head first. A buffer of a packed ring has its id alone here.
-    pub descriptors: ArrayVec<u16, 8>,
 }
 
 /// What is told of a posted buffer that an id names: its tag, how many slots of the ring it takes, and how many of its

@@ -1,6 +1,6 @@
 //! A set of small numbers.
 
-ghost use Rattle.std.specs.Prelude.{◌≡◌, ℕ, ◌+◌, ◌*◌, ◌/◌, ◌<◌, ◌≤◌, ◌==◌, ◌||◌, ◌&&◌, not, false, length, nat_lt, take, All, IfOk, MatchOption};
+ghost use Rattle.std.specs.Prelude.{◌≡◌, ℕ, [], ◌+◌, ◌*◌, ◌/◌, ◌<◌, ◌≤◌, ◌==◌, ◌||◌, ◌&&◌, not, false, length, nat_lt, take, All, IfOk, MatchOption};
 ghost use Rattle.vq_posted.specs.Free.{is_in};
 ghost use Rattle.vq_posted.specs.Members.{is_member, members, IsNext};
 
@@ -136,20 +136,19 @@ impl NumberSet {
         self.first_from_word(index + 1)
     }
 
-    /// The lowest members, rising: `count` of them, or all where there are fewer.
-    pub fn lowest(&self, count: usize) -> ArrayVec<u16, 8>
-        requires { count ≤ 8 }
-        ensures { result.items ≡ take count (members self.now) }
+    /// Adds the lowest members to a list that has none, rising: `count` of them, or all where there are fewer.
+    pub fn add_lowest(&self, count: usize, numbers: &mut ArrayVec<u16, 8>)
+        requires few { count ≤ 8 }
+        requires none { numbers.old.items ≡ [] }
+        ensures { numbers.new.items ≡ take count (members self.now) }
     {
-        let mut numbers = ArrayVec::new();
         let mut from = 0;
         'numbers: for _left in 0..count {
             let Some(number) = self.next_from(from) else {
-                return numbers;
+                return;
             };
             numbers.push(number as u16);
             from = number + 1;
         }
-        numbers
     }
 }

@@ -98,7 +98,21 @@ impl PostedBuffers {
         ensures value { result.items ≡ take count (free_descriptors self.now.size self.now.unreaped) }
         ensures count { length result.items ≡ count }
     {
-        self.descriptors.lowest(count)
+        let mut descriptors = ArrayVec::new();
+        self.add_lowest_free(count, &mut descriptors);
+        descriptors
+    }
+
+    /// Adds the lowest free descriptors, rising, to a list that has none: up to 8, and no more than there are free slots.
+    #[inline]
+    pub fn add_lowest_free(&self, count: usize, descriptors: &mut ArrayVec<u16, 8>)
+        requires few { count ≤ 8 }
+        requires room { count ≤ self.now.size - slots_of_all self.now.unreaped }
+        requires none { descriptors.old.items ≡ [] }
+        ensures value { descriptors.new.items ≡ take count (free_descriptors self.now.size self.now.unreaped) }
+        ensures count { length descriptors.new.items ≡ count }
+    {
+        self.descriptors.add_lowest(count, descriptors);
     }
 
     /// One more buffer, with a tag that no other one has. Its descriptors are the lowest that are free, and it takes no fewer

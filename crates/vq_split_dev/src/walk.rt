@@ -1,7 +1,7 @@
 //! The chain that begins at a head.
 
 ghost use Rattle.std.specs.Prelude.{◌≡◌, ◌+◌, ◌*◌, ◌≤◌, [], ◌∷◌, true, length};
-ghost use Rattle.vq_common.specs.Chain.{walked};
+ghost use Rattle.vq_common.specs.Chain.{shown_if, walked};
 ghost use Rattle.vq_common.specs.Descriptor.{is_indirect};
 ghost use Rattle.vq_common.specs.Table.{pieces_if, pieces_with};
 ghost use Rattle.vq_split_dev.specs.Walk.{WalksTo, chain_pieces, chain_shown};
@@ -46,21 +46,32 @@ fn walk(mem: &GuestMem, cfg: &RingCfg, head: u16, pieces: &mut ArrayVec<Piece, 8
     None
 }
 
+/// Finds the chain that begins at the id of `chain`, which has no pieces yet, and answers whether there is one that keeps
+/// the rules.
+fn find_chain(mem: &GuestMem, cfg: &RingCfg, chain: &mut Chain) -> bool
+    requires none { chain.old.pieces.items ≡ [] }
+    requires table { cfg.now.desc + 16 * cfg.now.size ≤ length mem.now.bytes }
+    ensures { shown_if result chain.new ≡ chain_shown mem.now.bytes cfg.now chain.old.id }
+{
+    let Some(slots) = walk(mem, cfg, chain.id, &mut chain.pieces) else {
+        return false;
+    };
+    chain.slots = slots;
+    are_pieces_valid(mem.len(), chain.pieces.as_slice())
+}
+
 /// What the ring shows at a head that it has: the chain of that head, or something malformed.
 pub fn chain_at(mem: &GuestMem, cfg: &RingCfg, head: u16) -> Take
     requires { cfg.now.desc + 16 * cfg.now.size ≤ length mem.now.bytes }
     ensures { walked result ≡ chain_shown mem.now.bytes cfg.now head }
 {
-    let mut pieces = ArrayVec::new();
-    let Some(slots) = walk(mem, cfg, head, &mut pieces) else {
-        return Take::Bad;
+    let mut chain = Chain {
+        id: head,
+        slots: 0,
+        pieces: ArrayVec::new(),
     };
-    if are_pieces_valid(mem.len(), pieces.as_slice()) {
-        Take::Front(Chain {
-            id: head,
-            slots,
-            pieces,
-        })
+    if find_chain(mem, cfg, &mut chain) {
+        Take::Front(chain)
     } else {
         Take::Bad
     }

@@ -8,6 +8,7 @@ ghost use Rattle.vq_split_drv.specs.Post.{split_post_accesses, split_posted};
 
 use crate::reap::UsedElement;
 use crate::ring::Ring;
+use arrayvec::ArrayVec;
 use port_access::mark_where_due;
 use std::alloc::Global;
 use std::marker::Model;
@@ -117,17 +118,19 @@ impl DriverEnd for SplitDriver {
         if slots > self.free() {
             return Err(Full);
         }
-        let descriptors = self.posted.lowest_free(usize::from(slots));
-        self.ring
-            .put_buffer(port, buf, descriptors.as_slice(), &mut self.room);
-        port.mark();
-        self.ring.available = self.ring.available.wrapping_add(1);
-        self.posted.add(Posted {
+        let mut posted = Posted {
+            descriptors: ArrayVec::new(),
             tag: buf.tag,
             slots,
             readable: buf.readable.len() as u16,
-            descriptors,
-        });
+        };
+        self.posted
+            .add_lowest_free(usize::from(slots), &mut posted.descriptors);
+        self.ring
+            .put_buffer(port, buf, posted.descriptors.as_slice(), &mut self.room);
+        port.mark();
+        self.ring.available = self.ring.available.wrapping_add(1);
+        self.posted.add(posted);
         Ok(())
     }
 

@@ -16,7 +16,7 @@ use crate::ring::Ring;
 use arrayvec::ArrayVec;
 use port_access::{put, put_data, put_u16};
 use vq_common::map::{DRIVER_AREA, TABLE_LEN, TABLES};
-use vq_common::{Descriptor, DescriptorFlags, Pieces};
+use vq_common::{Descriptor, DescriptorFlags, Pieces, ring_place};
 use vq_posted::head;
 use vt_types::{Port, PostBuf, Room};
 
@@ -105,7 +105,7 @@ impl Ring {
         ensures credit { P.credit port.old ≤ P.credit port.new + cost_of_all (available_puts (ring_queue self.now) head) }
     {
         let area = self.base + DRIVER_AREA;
-        let entry = area + (4 + 2 * u64::from(self.available % self.cfg.size));
+        let entry = area + (4 + 2 * u64::from(ring_place(self.available, self.cfg.size)));
         put_u16(port, entry, head, room);
         put_u16(port, area + 2, self.available.wrapping_add(1), room);
     }

@@ -13,8 +13,8 @@ ghost use Rattle.vq_split_drv.specs.Reap.{split_signals_program, used_event_put}
 use crate::ring::Ring;
 use byteorder::{ByteOrder, LittleEndian};
 use port_access::{get, get_written, put_u16};
-use vq_common::AvailableFlags;
 use vq_common::map::{DEVICE_AREA, DRIVER_AREA};
+use vq_common::{AvailableFlags, ring_place};
 use vt_types::{Port, Room};
 
 /// An element of the used ring: a buffer's id, and how many bytes the device wrote (VIRTIO 1.2, 2.7.8).
@@ -43,7 +43,7 @@ impl Ring {
         ensures len { result.len ≡ little_number 4 (drop 4 room.new.items) }
         ensures credit { P.credit port.old ≤ P.credit port.new }
     {
-        let place = 4 + 8 * u64::from(self.used % self.cfg.size);
+        let place = 4 + 8 * u64::from(ring_place(self.used, self.cfg.size));
         get(port, self.base + DEVICE_AREA + place, 8, room);
         let bytes = room.as_slice();
         UsedElement {

@@ -14,6 +14,7 @@ pub(crate) struct Ring {
     pub base: u64,
     pub available: u16,
     pub used: u16,
+    ghost sized: { 0 < cfg.size → IsTrue (is_ring_size cfg.size) },
     ghost small: { cfg.size ≤ 1024 },
     ghost low: { base ≤ 0x500_0000 },
     ghost page: { base % 4096 ≡ 0 },

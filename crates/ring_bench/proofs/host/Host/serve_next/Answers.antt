@@ -2,7 +2,7 @@
 -- lie inside memory, whose length stays while bytes are written over the chain.
 use Rattle.std.proofs.Common.{◌≡◌, List, ℕ, length, sym, ap, arith, ◌∙◌}
 use Rattle.vq_common.specs.Chain.{chain_value}
-use Rattle.vq_common.proofs.RuleFacts.{rules_inside, room-le, readable_len-le}
+use Rattle.vq_common.proofs.RuleFacts.{rules_inside, room-le}
 use Rattle.vq_common.proofs.PieceLaws.{length-scatter}
 use Rattle.ring_bench.proofs.host.Host.serve_next.Goals as goal
 
@@ -13,11 +13,6 @@ gather-requires g c =
 pub scatter-requires-clause-rules : goal.scatter-requires-clause-rules
 scatter-requires-clause-rules g c =
     (g.met.E.DeviceEnd.shown c.args.memory.now.bytes (g.E.DeviceEnd.queue c.args.self.now.device) (chain_value c.in-Front.chain) (sym c.in-Front.ensures.takes.shows)).rules
-
-pub readable_len-requires : goal.readable_len-requires
-readable_len-requires g c =
-    let shown = g.met.E.DeviceEnd.shown c.args.memory.now.bytes (g.E.DeviceEnd.queue c.args.self.now.device) (chain_value c.in-Front.chain) (sym c.in-Front.ensures.takes.shows) in
-    omega (arith, readable_len-le (length c.args.memory.now.bytes) c.in-Front.chain.pieces.items shown.rules)
 
 pub room-requires : goal.room-requires
 room-requires g c =

@@ -2,7 +2,7 @@ use Rattle.std.proofs.Common.{◌≡◌, ◌≤◌, ◌*◌, ◌+◌, ◌-◌, �
 use Rattle.vq_posted.specs.Free.{numbers}
 use Rattle.vq_posted.specs.Members.{is_member}
 use Rattle.vq_posted.proofs.Numbers.{lowest_more, lowest_all}
-use Rattle.vq_posted.proofs.number_set.NumberSet.lowest.Goals as goal
+use Rattle.vq_posted.proofs.number_set.NumberSet.add_lowest.Goals as goal
 
 pub returns-in_default : goal.returns-in_default
 returns-in_default c = lowest_all c.args.self.now _ _ c.numbers.from c.numbers._left c.args.count c.in_default.ensures.next c.numbers.invariant.items

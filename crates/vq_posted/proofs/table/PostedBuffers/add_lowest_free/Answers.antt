@@ -4,11 +4,11 @@ use Rattle.vq_posted.specs.Order.{IsInOrder}
 use Rattle.vq_posted.specs.Table.{PostedView}
 use Rattle.vq_posted.proofs.Buffers.{lowest_free-length}
 use Rattle.vq_posted.proofs.Kept.{members_are_free}
-use Rattle.vq_posted.proofs.table.PostedBuffers.lowest_free.Goals as goal
+use Rattle.vq_posted.proofs.table.PostedBuffers.add_lowest_free.Goals as goal
 
-lowest : (c : goal.After-lowest) → c.lowest.result.items ≡ take c.args.count (free_descriptors c.args.self.now.size c.args.self.now.unreaped)
+lowest : (c : goal.After-add_lowest) → c.add_lowest.new.numbers.items ≡ take c.args.count (free_descriptors c.args.self.now.size c.args.self.now.unreaped)
 lowest c =
-    c.lowest.ensures
+    c.add_lowest.ensures
     ∙ ap (take c.args.count) (members_are_free c.self.inside.size c.self.inside.free c.self.inside.descriptors c.self.inside.tags c.self.inside.places.items c.self.invariant)
     ∙ ap (λ (v : PostedView). take c.args.count (free_descriptors v.size v.unreaped)) c.self.view_is
 

@@ -1,7 +1,7 @@
 use Rattle.std.proofs.Common.{◌≡◌, ◌++◌, ◌-◌, ◌*◌, ◌≤◌, length, take, filter}
 use Rattle.vq_posted.specs.Free.{numbers}
 use Rattle.vq_posted.specs.Members.{is_member, members}
-use Rattle.vq_posted.proofs.number_set.NumberSet.lowest.Given as goal
+use Rattle.vq_posted.proofs.number_set.NumberSet.add_lowest.Given as goal
 
 abbrev pub invariant-numbers : goal.invariant-numbers
 invariant-numbers l = record {
