@@ -1,6 +1,6 @@
 //! What a console keeps.
 
-ghost use Rattle.std.specs.Prelude.{◌≡◌, ℕ, ◌+◌, ◌-◌, ◌≤◌, [], ◌∷◌, ◌++◌, length, drop, IfOk, OnOk, OnErr};
+ghost use Rattle.std.specs.Prelude.{◌≡◌, ℕ, ◌+◌, ◌-◌, ◌≤◌, [], ◌∷◌, ◌++◌, length, max, drop, IfOk, IsOk, OnOk, OnErr};
 ghost use Rattle.guest_mem.specs.Memory.{part};
 ghost use Rattle.dev_console.specs.Console.{with_input};
 
@@ -46,12 +46,15 @@ impl ConState {
         })
     }
 
-    /// Makes room for at least `CONSOLE_ROOM` console bytes.
+    /// Makes room for at least `CONSOLE_ROOM` console bytes, and for no more than there was or these. Where there is the
+    /// room it does not answer `Memory`.
     pub fn reserve(&mut self, alloc: Global) -> Result<(), Memory>
         ensures waiting { self.new.waiting ≡ self.old.waiting }
         ensures console { self.new.console ≡ self.old.console }
         ensures spare { self.old.spare ≤ self.new.spare }
+        ensures most { self.new.spare ≤ max self.old.spare CONSOLE_ROOM }
         ensures ok { OnOk result (CONSOLE_ROOM ≤ self.new.spare) }
+        ensures enough { CONSOLE_ROOM ≤ self.old.spare → IsOk result }
     {
         let _ = alloc;
         let room = CONSOLE_ROOM as usize;

@@ -1,6 +1,6 @@
 //! What a network device keeps.
 
-ghost use Rattle.std.specs.Prelude.{◌≡◌, ℕ, ◌+◌, ◌-◌, ◌<◌, ◌≤◌, [], ◌∷◌, ◌++◌, length, Some, IfOk, OnOk, IsTrue, vec_len, vec_capacity};
+ghost use Rattle.std.specs.Prelude.{◌≡◌, ℕ, ◌+◌, ◌-◌, ◌<◌, ◌≤◌, [], ◌∷◌, ◌++◌, length, max, Some, IfOk, IsOk, OnOk, IsTrue, vec_len, vec_capacity};
 ghost use Rattle.std.specs.List.{slice_get};
 ghost use Rattle.guest_mem.specs.Memory.{part};
 ghost use Rattle.vq_common.specs.Piece.{keeps_rules, readable, readable_len};
@@ -66,12 +66,15 @@ impl NetState {
         })
     }
 
-    /// Makes room for at least `FRAMES_ROOM` sent frames. Where their number would pass 32 bits it answers `Memory`.
+    /// Makes room for at least `FRAMES_ROOM` sent frames, and for no more than there was or these. Where their number would
+    /// pass 32 bits it answers `Memory`; where there is the room it does not.
     pub fn reserve(&mut self, alloc: Global) -> Result<(), Memory>
         ensures waiting { self.new.waiting ≡ self.old.waiting }
         ensures sent { self.new.sent ≡ self.old.sent }
         ensures spare { self.old.spare ≤ self.new.spare }
+        ensures most { self.new.spare ≤ max self.old.spare FRAMES_ROOM }
         ensures ok { OnOk result (FRAMES_ROOM ≤ self.new.spare) }
+        ensures enough { FRAMES_ROOM ≤ self.old.spare → IsOk result }
     {
         let _ = alloc;
         if self.spare < FRAMES_ROOM {
