@@ -63,3 +63,9 @@ mmio_rows =
     ∷ loaded 0x0b4
     ∷ loaded 0x0fc
     ∷ []
+
+-- the offsets of the registers that MMIO and PCI share, in the order of `CommonRegs` (VIRTIO 1.2, 4.2.2): the selector of
+-- the device's features and their word, those of the driver, the status, the generation, the queue's selector, size and
+-- enabling, and the low halves of its three addresses
+abbrev pub shared_offsets : List ℕ
+shared_offsets = 0x014 ∷ 0x010 ∷ 0x024 ∷ 0x020 ∷ 0x070 ∷ 0x0fc ∷ 0x030 ∷ 0x038 ∷ 0x044 ∷ 0x080 ∷ 0x090 ∷ 0x0a0 ∷ []

@@ -10,4 +10,4 @@ mod tests;
 
 pub use layout::{CommonRegs, RegisterLayout, Row};
 pub use lookup::{covering, find};
-pub use mmio::{CONFIGURATION, Mmio, page_address};
+pub use mmio::{CONFIGURATION, Mmio, page_address, shared_registers};

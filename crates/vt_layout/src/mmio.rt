@@ -1,6 +1,7 @@
 //! The page of registers of a device on MMIO (VIRTIO 1.2, 4.2.2).
 
-ghost use Rattle.std.specs.Prelude.{◌≡◌, ℕ, ◌+◌, ◌*◌, ◌<◌, refl, true, false, [], ◌∷◌};
+ghost use Rattle.std.specs.Prelude.{◌≡◌, ℕ, ◌+◌, ◌*◌, ◌<◌, refl, true, false, [], ◌∷◌, map, Some};
+ghost use Rattle.vt_layout.specs.Layout.{find_from};
 ghost use Rattle.std.proofs.Common.{lit<};
 ghost use Rattle.vt_layout.specs.Mmio as spec;
 
@@ -159,4 +160,25 @@ impl CommonRegs for Mmio {
     ghost q_driver = { lit< tt };
 
     ghost q_device = { lit< tt };
+}
+
+/// The numbers of the registers that MMIO and PCI share, each that of the row at its offset of an MMIO page (VIRTIO 1.2,
+/// 4.2.2). In the order of `CommonRegs`.
+pub fn shared_registers() -> [u32; 12]
+    ensures { map (λ off. find_from 0 spec.mmio_rows off 4) spec.shared_offsets ≡ map Some result }
+{
+    [
+        Mmio::DEV_SEL,
+        Mmio::DEV_FEAT,
+        Mmio::DRV_SEL,
+        Mmio::DRV_FEAT,
+        Mmio::STATUS,
+        Mmio::GENERATION,
+        Mmio::Q_SEL,
+        Mmio::Q_SIZE,
+        Mmio::Q_ENABLE,
+        Mmio::Q_DESC,
+        Mmio::Q_DRIVER,
+        Mmio::Q_DEVICE,
+    ]
 }
