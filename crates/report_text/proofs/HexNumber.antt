@@ -45,7 +45,7 @@ glyph : (d : ℕ) → d < 16 → slice_index lower_digits d ≡ digit_glyph fals
 glyph d h = same_below-at 16 d refl h
 
 -- the digits of one list of bytes after another
-encode-append : (xs ys : List ℕ) → encode_lower (xs ++ ys) ≡ encode_lower xs ++ encode_lower ys
+pub encode-append : (xs ys : List ℕ) → encode_lower (xs ++ ys) ≡ encode_lower xs ++ encode_lower ys
 unfolding encode_with
 encode-append [] ys = refl
 encode-append (b ∷ xs) ys = ap (λ z. slice_index lower_digits (b / 16) ∷ slice_index lower_digits (b % 16) ∷ z) (encode-append xs ys)

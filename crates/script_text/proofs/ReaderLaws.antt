@@ -1,7 +1,7 @@
 -- Facts on the reader of lines.
 use Rattle.std.proofs.Common.{◌≡◌, ℕ, zero, suc, ◌+◌, ◌-◌, ◌*◌, ◌≤◌, ◌<◌, Bool, true, List, [], ◌∷◌, ◌++◌, length, take, drop, Option, Some, None, Result, Ok, Err, append-nil, refl, sym, ap, ◌∙◌, arith}
 use Rattle.std.specs.Prelude.{◌==◌, if◌then◌else◌, is_ok, OnOk}
-use Rattle.std.proofs.lemmas.List.{length-take-le, length-drop, drop-append-le}
+use Rattle.std.proofs.lemmas.List.{length-take, length-take-le, length-drop, drop-append-le, take-append-le}
 use Rattle.std.proofs.Math.Seq.{take-length, drop-length}
 use Rattle.std.specs.List.{position, position_or_len}
 use Rattle.vt_outside.specs.Source.{Moves}
@@ -9,7 +9,7 @@ use Rattle.vt_outside.specs.Source.{SourceView}
 use Rattle.script_text.specs.declared.reader.NextFault.{NextFault}
 use Rattle.script_text.specs.declared.reader.NextFault.TheVariants.{Read, TooLong, Long, Memory}
 use Rattle.script_text.specs.Limits.{LONGEST_SCRIPT}
-use Rattle.script_text.specs.Lines.{NoMore, TooMany, Line, ReaderView, lines_after, input_left, lines_left, Stays, NextIs, Answers}
+use Rattle.script_text.specs.Lines.{NoMore, TooMany, Line, ReaderView, lines_after, input_left, lines_left, Stays, NextIs, Answers, Takes, KnowsEnd}
 use Rattle.script_text.specs.Reader.{without_line, with_bytes, behind_line, AnswersLine, AnswersRest, Gave}
 use Rattle.script_text.proofs.LineLaws.{found, not_found, lines_feed, lines_over, lines_last, at_end}
 
@@ -41,6 +41,18 @@ gave (Some left) None room room2 n within some moves = moves
 gave (Some left) (Some left2) room room2 n within some moves =
     let len = length-take-le n room2 within in
     (moves.0, λ none. moves.1 (sym len ∙ ap length none) some)
+
+-- bytes that were read into the front of a room
+pub cut_front : (all bytes part rest : List ℕ) (n : ℕ) → n ≤ length part → all ≡ bytes ++ take n (part ++ rest) → all ≡ bytes ++ take n part
+cut_front all bytes part rest n within h = h ∙ ap (λ z. bytes ++ z) (take-append-le n part rest within)
+
+-- a part of a room has room
+pub some_part : (most : ℕ) (room : List ℕ) → 0 < most → most ≤ length room → 0 < length (take most room)
+some_part most room some within = let len : length (take most room) ≡ most = length-take-le most room within in omega (arith, len, some)
+
+-- and what was read into it fits where the room would
+pub fits_in : (held capacity n most len : ℕ) (room bytes : List ℕ) → n ≤ length (take most room) → most ≤ len → held + len ≤ capacity → held + length (take n bytes) ≤ capacity
+fits_in held capacity n most len room bytes bound within fits = omega (arith, length-take most room, length-take n bytes, bound, fits)
 
 -- what an answer that is Ok ensures
 pub at_ok : {T E : Type 0} (r : Result T E) (P : Type 0) → is_ok r ≡ true → OnOk r P → P
@@ -77,6 +89,8 @@ pub record Stands (old now : ReaderView) (source source2 : SourceView) (searched
   pub calm : source2.faults ≡ source.faults
   pub within : searched ≤ length now.held
   pub none : position (λ b. b == 10) (take searched now.held) ≡ None
+  pub takes : Takes source.left source2.left old now
+  pub ends : KnowsEnd source.left old → KnowsEnd source2.left now
 
 same_lines : (old now : ReaderView) (left left2 : List ℕ) → now.answered ≡ old.answered → input_left now left2 ≡ input_left old left → lines_left old left ≡ lines_left now left2
 same_lines old now left left2 answered input =

@@ -1,4 +1,4 @@
-use Rattle.std.specs.Prelude.{◌≡◌, ℕ, zero, suc, ◌+◌, ◌-◌, ◌<◌, ◌≤◌, ◌==◌, List, [], ◌∷◌, ◌++◌, length, Bool, Option, Some, None, Result, Ok, Err, if◌then◌else◌}
+use Rattle.std.specs.Prelude.{◌≡◌, ℕ, zero, suc, ◌+◌, ◌-◌, ◌<◌, ◌≤◌, ◌==◌, List, [], ◌∷◌, ◌++◌, length, drop, Bool, true, Option, Some, None, Result, Ok, Err, if◌then◌else◌}
 use Rattle.vt_outside.specs.Faults.{Rose}
 use Rattle.script_text.specs.declared.reader.NextFault.{NextFault}
 use Rattle.script_text.specs.declared.reader.NextFault.TheVariants.{Read, TooLong, Long, Memory}
@@ -59,6 +59,18 @@ NextIs (Err Memory) old new left left2 = Stays old new left left2
 abbrev pub Answers : Option (List ℕ) → Option (List ℕ) → Result (Option ℕ) NextFault → ReaderView → ReaderView → Type 0
 Answers before after result old new =
     (left : List ℕ) → before ≡ Some left → (left2 : List ℕ) × (after ≡ Some left2) × NextIs result old new left left2
+
+-- how many bytes a reader has taken from its source: each of them is answered or held
+abbrev pub bytes_taken : ReaderView → ℕ
+bytes_taken reader = reader.answered + length reader.held
+
+-- where a source tells what is left, the bytes that a call takes are the front of it, and the reader has each of them
+pub record Takes (before after : Option (List ℕ)) (old new : ReaderView) : Type 0 where
+  pub front : (left : List ℕ) → before ≡ Some left → (n : ℕ) × (after ≡ Some (drop n left)) × (n + bytes_taken old ≡ bytes_taken new)
+
+-- where a source tells what is left, a reader takes it to have ended only where nothing is
+pub record KnowsEnd (told : Option (List ℕ)) (reader : ReaderView) : Type 0 where
+  pub nothing : reader.ended ≡ true → (left : List ℕ) → told ≡ Some left → left ≡ []
 
 -- the number of a line counts the lines; a line that is answered takes bytes of the script, and is not too long
 pub record Counts (number : ℕ) (old new : ReaderView) : Type 0 where

@@ -40,13 +40,13 @@ impl Model for LineReader {
 
     ghost view = { λ r. record { held = drop r.start r.bytes.items; answered = r.answered; number = r.number; ended = r.ended; line = take r.line_len (drop r.line_start r.bytes.items) } };
 
-    ghost invariant = { λ r. (r.start ≤ length r.bytes.items) × (r.line_start + r.line_len ≤ length r.bytes.items) × (r.answered ≤ 2 ^ 26) × (r.number ≤ r.answered) };
+    ghost invariant = { λ r. (r.start ≤ length r.bytes.items) × (r.line_start + r.line_len ≤ length r.bytes.items) × (r.answered ≤ 2 ^ 26) × (r.number ≤ r.answered) × (r.answered + length r.bytes.items ≤ r.start + (2 ^ 26 + 1)) };
 }
 
 impl LineReader {
     ghost use Rattle.std.specs.Prelude.{◌≡◌, ◌+◌, ◌-◌, ◌<◌, ◌≤◌, ◌==◌, [], false, true, length, take, is_some, IfOk};
     ghost use Rattle.std.specs.List.{position};
-    ghost use Rattle.script_text.specs.Lines.{Answers, FaultsOf, Numbers};
+    ghost use Rattle.script_text.specs.Lines.{bytes_taken, Answers, Takes, KnowsEnd, FaultsOf, Numbers};
     ghost use Rattle.script_text.specs.Reader.{without_line, AnswersLine, AnswersRest, ReadsMore};
     ghost use Rattle.script_text.specs.Limits as limit;
 
@@ -79,7 +79,7 @@ impl LineReader {
     /// among them, and more bytes came; `Long` where it ends there and has more than `LONGEST_LINE` bytes. `Read` comes
     /// where the source failed. After None or a fault the input stays: the bytes held, followed by those that the source
     /// has left, are as before, and a later call goes on from there. A source that has ended is read no more, and none is
-    /// read where the bytes held have a line feed.
+    /// read where the bytes held have a line feed. All calls together take at most the first 2^26 + 1 bytes of a source.
     pub fn next_line<S: Source>(
         &mut self,
         alloc: Global,
@@ -90,6 +90,9 @@ impl LineReader {
         ensures faults { FaultsOf result (S.view source.old).faults (S.view source.new).faults }
         ensures ended { self.old.ended ≡ true → source.new ≡ source.old }
         ensures held { is_some (position (λ b. b == 10) self.old.held) ≡ true → source.new ≡ source.old }
+        ensures takes { Takes (S.view source.old).left (S.view source.new).left self.old self.new }
+        ensures within { bytes_taken self.new ≤ limit.LONGEST_SCRIPT + 1 }
+        ensures ends { KnowsEnd (S.view source.old).left self.old → KnowsEnd (S.view source.new).left self.new }
     {
         self.forget_line();
         let mut searched = 0;
@@ -172,17 +175,20 @@ impl LineReader {
         }
     }
 
-    /// Reads more bytes behind those held, or the end.
+    /// Reads more bytes behind those held, or the end; of the bytes that are too many it takes the first at most.
     fn read<S: Source>(&mut self, alloc: Global, source: &mut S) -> Result<(), NextFault>
-        ensures { ReadsMore result (S.view source.old) (S.view source.new) self.old self.new }
+        requires room { length self.old.held ≤ limit.LONGEST_SCRIPT - self.old.answered }
+        ensures more { ReadsMore result (S.view source.old) (S.view source.new) self.old self.new }
+        ensures within { bytes_taken self.new ≤ limit.LONGEST_SCRIPT + 1 }
     {
         let _ = alloc;
+        let most = READ_LEN.min(self.room() + 1 - self.held().len());
         self.drop_answered();
         if self.bytes.reserve(READ_LEN).is_err() {
             return Err(NextFault::Memory);
         }
         let mut room = [0u8; READ_LEN];
-        match source.read(&mut room) {
+        match source.read(&mut room[..most]) {
             Ok(n) => {
                 self.ended = n == 0;
                 let _fits = self.bytes.extend_from_slice(&room[..n]);
