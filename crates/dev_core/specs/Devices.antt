@@ -1,0 +1,57 @@
+use Rattle.std.specs.Prelude.{ℕ, List, [], false, Option, Some, None}
+use Rattle.vt_types.specs.declared.device.Dev.{Dev}
+use Rattle.vt_types.specs.declared.device.Dev.TheVariants.{Blk, Net, Con}
+use Rattle.vt_types.specs.declared.operation.Event.{Event}
+use Rattle.vt_types.specs.declared.operation.Event.TheVariants as event
+use Rattle.vt_types.specs.Device.{queue_count}
+use Rattle.vt_outside.specs.Tripped.{TrippedView}
+use Rattle.dev_status.specs.Features.{features_of}
+use Rattle.dev_console.specs.Console.{with_input}
+use Rattle.dev_core.specs.Device.{DeviceState, new_device, next_generation}
+
+-- the devices as one set, apart from any bus: the console, its size in characters, the input that waits and the bytes that
+-- it was given. The block and the network device are not there yet
+pub record Devices : Type 0 where
+  pub con : DeviceState
+  pub cols : ℕ
+  pub rows : ℕ
+  pub waiting : List ℕ
+  pub console : List ℕ
+
+-- the set as its calls see it: beside the devices, for how many more console bytes there is room, and the disk behind the
+-- block device, which no device asks yet
+pub record SetView : Type 0 where
+  pub devices : Devices
+  pub spare : ℕ
+  pub disk : TrippedView
+
+-- the devices at the start: a console of 80 columns and 25 rows (our own)
+abbrev pub new_devices : Devices
+new_devices = record { con = new_device (features_of Con false) (queue_count Con); cols = 80; rows = 25; waiting = []; console = [] }
+
+-- a device, where it is there
+abbrev pub device : Devices → Dev → Option DeviceState
+device s Blk = None
+device s Net = None
+device s Con = Some s.con
+
+-- the set with a device changed, where it is there
+abbrev pub with_device : (DeviceState → DeviceState) → Devices → Dev → Devices
+with_device change s Blk = s
+with_device change s Net = s
+with_device change s Con = record s { con = change s.con }
+
+-- an event of a backend that serves no buffer: the set after it, and the device whose configuration changed. A change of
+-- the configuration raises its generation, also where the values are as before (VIRTIO 1.2, 2.5)
+pub record Changed : Type 0 where
+  pub configuration : Option Dev
+  pub devices : Devices
+
+abbrev pub backend : Devices → Event → Changed
+backend s (event.Serve dev queue) = record { configuration = None; devices = s }
+backend s (event.Frame bytes) = record { configuration = None; devices = s }
+backend s (event.Key bytes) = record { configuration = None; devices = record s { waiting = with_input s.waiting bytes } }
+backend s (event.Resize sectors) = record { configuration = None; devices = s }
+backend s (event.Link up) = record { configuration = None; devices = s }
+backend s (event.Consize cols rows) = record { configuration = Some Con; devices = record s { con = next_generation s.con; cols = cols; rows = rows } }
+backend s (event.Diskfail call) = record { configuration = None; devices = s }
