@@ -1,0 +1,3 @@
+pub mod MmioTable
+pub mod Page
+pub mod Registers
