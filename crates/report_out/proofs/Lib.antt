@@ -1,0 +1,6 @@
+pub mod DigitLaws
+pub mod EndLaws
+pub mod OutcomeLaws
+pub mod ReportsLaw
+pub mod RunLaws
+pub mod SendLaws

@@ -1,0 +1,9 @@
+pub mod Answers
+pub mod DiskCalls
+pub mod EndText
+pub mod Output
+pub mod Pieces
+pub mod Report
+pub mod Reports
+pub mod Run
+pub mod Status
