@@ -1,0 +1,2 @@
+pub mod RawReport
+pub mod Run

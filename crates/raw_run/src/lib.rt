@@ -1,0 +1,10 @@
+//! Raw scripts: accesses and events on a bus, in any order, and the report of their answers (our own).
+#![tactic(auto)]
+
+mod line;
+mod run;
+mod runner;
+#[cfg(test)]
+mod tests;
+
+pub use run::run_raw;
