@@ -1,7 +1,6 @@
 pub mod DiskLaws
 pub mod DriverCalls
 pub mod DriverEnds
-pub mod EndLaws
 pub mod FieldLaws
 pub mod GiveLaw
 pub mod Grammar
@@ -12,7 +11,6 @@ pub mod LineStep
 pub mod NotifyRound
 pub mod OpeningLaw
 pub mod OperationLaw
-pub mod OutcomeLaws
 pub mod PostProgram
 pub mod PostRound
 pub mod PostedLaw
@@ -28,14 +26,12 @@ pub mod Rounds
 pub mod RunLaws
 pub mod RunnableLaw
 pub mod ScriptRunLaws
-pub mod SendLaws
 pub mod ServeLaw
 pub mod ServeLaws
 pub mod ServeRound
 pub mod Sizes
 pub mod Stands
 pub mod StepTold
-pub mod TextFacts
 pub mod TopLaws
 pub mod TraceSteps
 pub mod Traced

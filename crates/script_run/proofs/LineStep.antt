@@ -5,9 +5,11 @@ use Rattle.vt_types.specs.declared.operation.EventAt.{EventAt}
 use Rattle.vt_types.specs.Operation.{Operation}
 use Rattle.abstract_devices.specs.World.{World}
 use Rattle.abstract_devices.specs.Operate.{Outcome, happen, placed_line}
+use Rattle.report_text.specs.Reply.{reply_line}
+use Rattle.report_out.specs.Report.{Report, before}
 use Rattle.script_run.specs.Lowering.{DriverRecord}
 use Rattle.script_run.specs.RawState.{RawState}
-use Rattle.script_run.specs.Report.{Report, before, line_report, reply_line}
+use Rattle.script_run.specs.Report.{line_report}
 use Rattle.script_run.specs.Run.{RunsOperation, RunsEvent, RunsLine}
 use Rattle.script_run.specs.Script.{ScriptLine, Operates, Happens, next_place}
 use Rattle.script_run.specs.Trace.{Trace, trace_of}

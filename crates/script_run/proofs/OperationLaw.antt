@@ -3,10 +3,10 @@ use Rattle.vt_types.specs.declared.device.BusKind.TheVariants.{Mmio}
 use Rattle.vt_types.specs.Operation.{Operation}
 use Rattle.vt_types.specs.Program.{Gives}
 use Rattle.vt_types.specs.Reply.{ReplyValue}
+use Rattle.report_text.specs.Reply.{reply_line}
 use Rattle.script_run.specs.Lowering.{DriverRecord, mmio_program}
 use Rattle.script_run.specs.Machine.{MachineView, MachineStep}
 use Rattle.script_run.specs.RawState.{RawState}
-use Rattle.script_run.specs.Report.{reply_line}
 use Rattle.script_run.specs.Run.{RunsOperation}
 use Rattle.script_run.specs.Trace.{trace_of}
 use Rattle.script_run.proofs.Traced.{MachineMark, IsTraced, traced}

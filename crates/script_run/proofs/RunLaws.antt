@@ -1,16 +1,17 @@
 use Rattle.std.proofs.Common.{◌≡◌, ℕ, ◌+◌, ◌≤◌, List, [], ◌++◌, Bool, true, false, Option, Some, None, refl, sym, ◌∙◌, ap, append_assoc, lit≤, arith}
 use Rattle.std.specs.Prelude.{if◌then◌else◌}
 use Rattle.std.proofs.lemmas.Bool.Decides.{nat_tests}
-use Rattle.std.specs.Prelude.{Result, Ok, Err, codes, ◌==◌, ◌^◌}
-use Rattle.std.specs.Fmt.{decimal}
+use Rattle.std.specs.Prelude.{Result, Ok, Err, ◌==◌, ◌^◌}
 use Rattle.std.specs.Bool.{MatchBool}
 use Rattle.vt_types.specs.declared.device.BusKind.TheVariants.{Mmio}
 use Rattle.vt_outside.specs.Text.{IsPrefixOf}
 use Rattle.abstract_devices.specs.World.{World, AbstractDisk, new_world}
+use Rattle.report_text.specs.EndParts.{fault_line, too_long_line}
+use Rattle.report_out.specs.Report.{Report, before}
+use Rattle.report_out.specs.declared.stop.Stop.{Stop}
 use Rattle.script_run.specs.Lowering.{DriverRecord, new_record}
 use Rattle.script_run.specs.RawState.{RawState, new_raw_state}
-use Rattle.script_run.specs.Report.{Report, before, report_from}
-use Rattle.script_run.specs.declared.stop.Stop.{Stop}
+use Rattle.script_run.specs.Report.{report_from}
 use Rattle.script_run.specs.Run.{LinesDone, RunsLine, EndingPart}
 use Rattle.script_run.specs.Script.{Script, ScriptLine, Ends, BadLine, TooLong, Line, line_at, and_rest, next_place}
 use Rattle.script_run.proofs.LineLaw.{line_holds, stands_start}
@@ -97,14 +98,14 @@ pub record EndsWith (r : Report) (sent text : List ℕ) (status : ℕ) : Type 0 
 
 -- the lines ended with too many bytes, or at a line that is not in the grammar
 pub ends_too_long : (disk : AbstractDisk) (outcomes : List Bool) (whole rest : Script) (sent : List ℕ) (place number : ℕ) (raw : RawState) (known : DriverRecord) → rest ≡ TooLong
-    → Reaches disk outcomes whole rest sent place number raw known → EndsWith (report_from Mmio whole 0 (new_world disk) new_raw_state new_record outcomes) sent (codes "too long\n") 7
+    → Reaches disk outcomes whole rest sent place number raw known → EndsWith (report_from Mmio whole 0 (new_world disk) new_raw_state new_record outcomes) sent too_long_line 7
 ends_too_long disk outcomes whole rest sent place number raw known is r =
     let e = r.report ∙ ap (λ (x : Script). before sent (report_from Mmio x number r.world raw known outcomes)) is in
     record { text_is = ap (λ (x : Report). x.text) e; status_is = ap (λ (x : Report). x.status) e }
 
 pub ends_bad : (disk : AbstractDisk) (outcomes : List Bool) (whole rest after : Script) (sent bytes : List ℕ) (place number : ℕ) (raw : RawState) (known : DriverRecord) → rest ≡ and_rest (line_at place bytes) after
     → line_at place bytes ≡ None → Reaches disk outcomes whole rest sent place number raw known
-    → EndsWith (report_from Mmio whole 0 (new_world disk) new_raw_state new_record outcomes) sent (codes "fault " ++ decimal (number + 1) ++ codes "\n") 3
+    → EndsWith (report_from Mmio whole 0 (new_world disk) new_raw_state new_record outcomes) sent (fault_line (number + 1)) 3
 ends_bad disk outcomes whole rest after sent bytes place number raw known is bad r =
     let begins : rest ≡ BadLine = is ∙ ap (λ (o : Option ScriptLine). and_rest o after) bad in
     let e = r.report ∙ ap (λ (x : Script). before sent (report_from Mmio x number r.world raw known outcomes)) begins in

@@ -1,12 +1,8 @@
-use Rattle.std.specs.Prelude.{◌≡◌, ℕ, ◌<◌, ◌≤◌, List, drop, length, Bool, Option, Some}
-use Rattle.script_run.specs.declared.script_text.input.Next.{Next}
-use Rattle.script_run.specs.declared.script_text.input.Next.TheVariants.{Line, AtEnd, TooLong}
+use Rattle.std.specs.Prelude.{◌≡◌, ℕ, ◌<◌, ◌≤◌, List, drop, length, Bool}
+use Rattle.script_run.specs.declared.pattern_text.input.Next.{Next}
+use Rattle.script_run.specs.declared.pattern_text.input.Next.TheVariants.{Line, AtEnd, TooLong}
 use Rattle.script_run.specs.Script as script
 use Rattle.script_run.specs.Script.{Script, script_in, line_at, next_place, and_rest}
-
--- where a source told what was left, its bytes from some place on are left now, and the place is within a bound
-abbrev pub TakesAtMost : ℕ → Option (List ℕ) → Option (List ℕ) → Type 0
-TakesAtMost most before after = (left : List ℕ) → before ≡ Some left → (n : ℕ) × (n ≤ most) × (after ≡ Some (drop n left))
 
 -- what the next line of an input says of the script that its bytes from a place on make
 abbrev pub NextLine : ℕ → ℕ → List ℕ → Bool → Next → Type 0

@@ -1,12 +1,10 @@
-pub mod DiskCalls
+pub mod Command
 pub mod DriverCalls
-pub mod EndParts
 pub mod Headline
 pub mod Input
 pub mod Lowering
 pub mod Machine
 pub mod MmioTable
-pub mod Output
 pub mod RawServe
 pub mod RawState
 pub mod Report
@@ -14,5 +12,4 @@ pub mod Run
 pub mod Script
 pub mod ScriptLine
 pub mod ServeSteps
-pub mod Text
 pub mod Trace

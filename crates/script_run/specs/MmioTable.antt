@@ -9,8 +9,8 @@ use Rattle.memory_port.specs.MemoryTable.{memory_table}
 use Rattle.vq_common.specs.Queue.{DeviceQueue, new_device_queue, is_ring_size}
 use Rattle.dev_status.specs.Status.{write_of, accept_of, feature_word, has_bits}
 use Rattle.vt_types.specs.Features.{INDIRECT_DESC, EVENT_IDX}
-use Rattle.script_run.specs.declared.mmio_regs.Register.{Register}
-use Rattle.script_run.specs.declared.mmio_regs.Register.TheVariants.{MagicValue, Version, DeviceId, VendorId, DeviceFeatures, DeviceFeaturesSel, DriverFeatures, DriverFeaturesSel, QueueSel, QueueNumMax, QueueNum, QueueReady, QueueNotify, InterruptStatus, InterruptAck, Status, QueueDescLow, QueueDescHigh, QueueDriverLow, QueueDriverHigh, QueueDeviceLow, QueueDeviceHigh, Nothing}
+use Rattle.script_run.specs.declared.page_registers.Register.{Register}
+use Rattle.script_run.specs.declared.page_registers.Register.TheVariants.{MagicValue, Version, DeviceId, VendorId, DeviceFeatures, DeviceFeaturesSel, DriverFeatures, DriverFeaturesSel, QueueSel, QueueNumMax, QueueNum, QueueReady, QueueNotify, InterruptStatus, InterruptAck, Status, QueueDescLow, QueueDescHigh, QueueDriverLow, QueueDriverHigh, QueueDeviceLow, QueueDeviceHigh, Nothing}
 use Rattle.script_run.specs.RawState.{RawState, RawDevice, RawQueue, new_raw_device}
 
 -- where the console's page of registers begins (our own)

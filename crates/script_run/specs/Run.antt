@@ -1,26 +1,28 @@
-use Rattle.std.specs.Prelude.{◌≡◌, ℕ, ◌+◌, ◌-◌, ◌≤◌, ◌==◌, ◌^◌, ◌⊎◌, nat_lt, length, take, min, List, [], ◌++◌, Bool, true, false, Some, None, Result, Ok, Err, IfOk, drop, codes}
-use Rattle.std.specs.Fmt.{decimal}
+use Rattle.std.specs.Prelude.{◌≡◌, ℕ, ◌+◌, ◌-◌, ◌≤◌, ◌==◌, ◌^◌, nat_lt, length, take, min, List, [], ◌++◌, Bool, true, false, Some, None, Result, Ok, Err, drop}
 use Rattle.std.specs.Bool.{MatchBool}
 use Rattle.vt_types.specs.Operation.{Operation}
 use Rattle.vt_types.specs.declared.device.BusKind.TheVariants.{Mmio}
 use Rattle.vt_types.specs.declared.operation.Event.{Event}
-use Rattle.vt_outside.specs.Disk.{DiskView}
 use Rattle.vt_outside.specs.Faults.{Rose}
 use Rattle.vt_outside.specs.Sink.{SinkView, Adds}
 use Rattle.vt_outside.specs.Source.{SourceView}
 use Rattle.vt_outside.specs.Text.{IsPrefixOf}
 use Rattle.abstract_devices.specs.World.{AbstractDisk, new_world}
-use Rattle.script_run.specs.DiskCalls.{SameDisk, AddsOutcomes, AreOutcomes, AreCallsOf}
-use Rattle.script_run.specs.declared.stop.Stop.{Stop}
-use Rattle.script_run.specs.declared.stop.Stop.TheVariants.{Read, Write, Memory}
-use Rattle.script_run.specs.Input.{TakesAtMost}
+use Rattle.report_text.specs.EndParts.{fault_line}
+use Rattle.report_text.specs.Reply.{reply_line}
+use Rattle.report_out.specs.Answers.{TakesAtMost}
+use Rattle.report_out.specs.EndText.{end_text}
+use Rattle.report_out.specs.Output.{SendCause}
+use Rattle.report_out.specs.Report.{Report}
+use Rattle.report_out.specs.Status.{status_of_stop}
+use Rattle.report_out.specs.declared.stop.Stop.{Stop}
+use Rattle.report_out.specs.declared.stop.Stop.TheVariants.{Read, Write, Memory}
 use Rattle.script_run.specs.Lowering.{DriverRecord, IsRunnable, new_record}
-use Rattle.script_run.specs.Output.{AllOrPart, SendCause}
 use Rattle.script_run.specs.RawServe.{raw_event}
 use Rattle.script_run.specs.RawState.{RawState, new_raw_state}
-use Rattle.script_run.specs.Report.{Report, report_from, report_of, reply_line, end_text}
-use Rattle.script_run.specs.Script.{Script, ScriptLine, Operates, Happens, script_in, script_of, line_at, status_at_end, MOST_BYTES}
-use Rattle.script_run.specs.declared.script_text.input.Input.{Input}
+use Rattle.script_run.specs.Report.{report_from}
+use Rattle.script_run.specs.Script.{ScriptLine, Operates, Happens, script_in, line_at, MOST_BYTES}
+use Rattle.script_run.specs.declared.pattern_text.input.Input.{Input}
 use Rattle.script_run.specs.Trace.{trace_of}
 
 -- an operation without events was run: the machine and the driver are as its trace leaves them, and its reply line was
@@ -50,7 +52,7 @@ IsRunnableLine (Happens e) = Unit {0}
 -- memory
 abbrev pub RunsNext : ℕ → ℕ → List ℕ → RawState → DriverRecord → RawState → DriverRecord → List ℕ → Result Bool Stop → Type 0
 RunsNext k place bytes raw known raw2 known2 text (Ok true) = (line : ScriptLine) × (line_at place bytes ≡ Some line) × RunsLine k line raw known raw2 known2 text
-RunsNext k place bytes raw known raw2 known2 text (Ok false) = (line_at place bytes ≡ None) × (text ≡ codes "fault " ++ decimal k ++ codes "\n")
+RunsNext k place bytes raw known raw2 known2 text (Ok false) = (line_at place bytes ≡ None) × (text ≡ fault_line k)
 RunsNext k place bytes raw known raw2 known2 text (Err e) = e ≡ Memory
 
 -- the lines of a script were run, with a disk's world beside them and the outcomes of its readings: their text was sent,
@@ -104,47 +106,7 @@ pub record ReadsInput (s s2 : SourceView) (result : Result Input Stop) : Type 0 
   pub takes : TakesAtMost (MOST_BYTES + 1) s.left s2.left
   pub what : ReadsWhat s s2 result
 
--- how a script ended or stopped: the count of faults of what stopped it rose, and the others are as they were
-abbrev pub ScriptCause : Result ℕ Stop → SourceView → SourceView → SinkView → SinkView → Type 0
-ScriptCause (Ok status) s s2 k k2 = ((status ≡ 0) ⊎ ((status ≡ 3) ⊎ (status ≡ 7))) × (s2.faults ≡ s.faults) × (k2.faults ≡ k.faults)
-ScriptCause (Err Read) s s2 k k2 = Rose s.faults s2.faults × (k2.faults ≡ k.faults)
-ScriptCause (Err Write) s s2 k k2 = (s2.faults ≡ s.faults) × Rose k.faults k2.faults
-ScriptCause (Err Memory) s s2 k k2 = (s2.faults ≡ s.faults) × (k2.faults ≡ k.faults)
-
--- the status of a script whose bytes the source told
-abbrev pub EndsAs : Result ℕ Stop → Script → Type 0
-EndsAs (Ok status) script = status ≡ status_at_end script
-EndsAs (Err e) script = Unit {0}
-
--- the status of a call that stopped
-abbrev pub status_of_stop : Stop → ℕ
-status_of_stop Read = 4
-status_of_stop Write = 5
-status_of_stop Memory = 6
-
--- the status of a call that ran a script
-abbrev pub run_status : Result ℕ Stop → ℕ
-run_status (Ok status) = status
-run_status (Err stop) = status_of_stop stop
-
--- and of one that showed the usage line
+-- the status of a call that showed the usage line
 abbrev pub usage_status : Result Unit Stop → ℕ
 usage_status (Ok x) = 2
 usage_status (Err stop) = status_of_stop stop
-
--- a script was run: from a source to a sink, beside a disk
-pub record RunsScript (s s2 : SourceView) (k k2 : SinkView) (d d2 : DiskView) (result : Result ℕ Stop) : Type 0 where
-  pub takes : TakesAtMost (MOST_BYTES + 1) s.left s2.left
-  pub cause : ScriptCause result s s2 k k2
-  pub disk : SameDisk d d2
-  pub outcomes : List Bool
-  pub tells : AddsOutcomes d.outcomes d2.outcomes outcomes
-  pub calls : AreCallsOf (run_status result) d.count (length outcomes)
-  pub text : List ℕ
-  pub adds : Adds k.written k2.written text
-  pub ends : (input : List ℕ) → s.left ≡ Some input → EndsAs result (script_of input)
-  pub reads : (input : List ℕ) → s.left ≡ Some input → IfOk result (λ status. status ≡ 0 → s2.left ≡ Some [])
-  pub stops : (input : List ℕ) (disk : AbstractDisk) (readings : List Bool) → s.left ≡ Some input → (status_at_end (script_of input) ≡ 0 → ⊥)
-      → AllOrPart result text (report_of Mmio input disk readings).text
-  pub report : (input : List ℕ) (image : List (List ℕ)) (readings : List Bool) → s.left ≡ Some input → d.image ≡ Some image → AreOutcomes d d2 readings
-      → AllOrPart result text (report_of Mmio input (record { sectors = image; read_only = d.locked }) readings).text

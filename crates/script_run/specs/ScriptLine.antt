@@ -4,8 +4,8 @@ use Rattle.vt_types.specs.declared.operation.Event.{Event}
 use Rattle.vt_types.specs.declared.operation.Step.{Step}
 use Rattle.vt_types.specs.declared.device.Dev.TheVariants.{Con}
 use Rattle.vt_types.specs.Operation.{operation, SetStatus}
-use Rattle.script_run.specs.declared.script_text.line.Line.{Line}
-use Rattle.script_run.specs.declared.script_text.line.Line.TheVariants as line
+use Rattle.script_run.specs.declared.pattern_text.line.Line.{Line}
+use Rattle.script_run.specs.declared.pattern_text.line.Line.TheVariants as line
 use Rattle.script_run.specs.Script.{ScriptLine, Operates, Happens, operates}
 
 -- a line as contracts see it

@@ -1,19 +1,15 @@
 //! The top call: a script of driver operations and backend events, run on a bus, and its report.
 #![tactic(auto)]
 
-mod dev_core;
+mod console_machine;
+mod console_page;
 mod drv_mmio;
-mod mmio_regs;
-mod output;
-#[cfg(test)]
-mod report_tests;
-mod report_text;
+mod page_registers;
+mod pattern_text;
 mod run;
-mod script_text;
-mod stop;
 #[cfg(test)]
 mod tests;
 mod top_call;
-mod vt_machine;
 
-pub use top_call::{Ended, top};
+pub use report_out::Ended;
+pub use top_call::top;

@@ -9,13 +9,12 @@ ghost use Rattle.script_run.specs.Run.{RunsOperation, RunsLine, IsRunnableLine, 
 ghost use Rattle.script_run.specs.Script.{line_at};
 ghost use Rattle.script_run.specs.ScriptLine.{script_line, line_value};
 
+use crate::console_machine::Machine;
 use crate::drv_mmio::MmioDriver;
-use crate::output::send;
-use crate::report_text::{REPLY_ROOM, Text};
-use crate::script_text::input::{Input, Next};
-use crate::script_text::line::{Line, next_place, parse_line};
-use crate::stop::Stop;
-use crate::vt_machine::Machine;
+use crate::pattern_text::input::{Input, Next};
+use crate::pattern_text::line::{Line, next_place, parse_line};
+use report_out::{Stop, send};
+use report_text::{LINE_ROOM, Text};
 use std::alloc::{AllocError, Global};
 use vt_outside::Sink;
 use vt_types::{Memory, Op, Room};
@@ -30,7 +29,7 @@ fn run_operation(
     text: &mut Text,
 )
     requires runnable { IsRunnable (operation op.now) }
-    requires room { REPLY_ROOM ≤ text.old.room }
+    requires room { LINE_ROOM ≤ text.old.room }
     requires pages { 4096 ≤ machine.old.pages }
     ensures { (added : List ℕ) × (text.new.bytes ≡ text.old.bytes ++ added) × RunsOperation number (operation op.now) machine.old.raw driver.old machine.new.raw driver.new added }
 {
@@ -50,7 +49,7 @@ fn run_line(
     text: &mut Text,
 )
     requires runnable { IsRunnableLine (script_line line.now) }
-    requires text_room { REPLY_ROOM ≤ text.old.room }
+    requires text_room { LINE_ROOM ≤ text.old.room }
     requires console_room { 8192 ≤ machine.old.spare }
     requires pages { 4096 ≤ machine.old.pages }
     ensures { (added : List ℕ) × (text.new.bytes ≡ text.old.bytes ++ added) × RunsLine number (script_line line.now) machine.old.raw driver.old machine.new.raw driver.new added }
@@ -63,14 +62,14 @@ fn run_line(
 
 /// Makes room for the text, the console bytes and the pages of guest memory of a line.
 fn prepare(alloc: Global, machine: &mut Machine, text: &mut Text) -> Result<(), Stop>
-    ensures text_room { OnOk result (REPLY_ROOM ≤ text.new.room) }
+    ensures text_room { OnOk result (LINE_ROOM ≤ text.new.room) }
     ensures text { text.new.bytes ≡ text.old.bytes }
     ensures console_room { OnOk result (8192 ≤ machine.new.spare) }
     ensures pages { OnOk result (4096 ≤ machine.new.pages) }
     ensures raw { machine.new.raw ≡ machine.old.raw }
     ensures memory { IfErr result (λ stop. stop ≡ Stop.Memory) }
 {
-    if machine.reserve(alloc).is_err() || text.reserve(alloc, REPLY_ROOM).is_err() {
+    if machine.reserve(alloc).is_err() || text.reserve(alloc, LINE_ROOM).is_err() {
         return Err(Stop::Memory);
     }
     Ok(())

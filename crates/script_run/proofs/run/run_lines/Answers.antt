@@ -3,12 +3,13 @@ use Rattle.std.specs.Prelude.{Bool}
 use Rattle.vt_types.specs.declared.device.BusKind.TheVariants.{Mmio}
 use Rattle.vt_outside.proofs.SinkLaws.{adds_none, adds_then}
 use Rattle.abstract_devices.specs.World.{AbstractDisk, new_world}
+use Rattle.report_out.specs.Report.{Report}
+use Rattle.report_out.proofs.SendLaws.{cause_then}
 use Rattle.script_run.specs.Lowering.{new_record}
 use Rattle.script_run.specs.RawState.{new_raw_state}
-use Rattle.script_run.specs.Report.{Report, report_from}
+use Rattle.script_run.specs.Report.{report_from}
 use Rattle.script_run.specs.Script.{script_in}
 use Rattle.script_run.proofs.RunLaws.{reaches_start_at, reaches_next, done_at_end, ends_too_long, ends_bad, done_ending, done_in_part, front, next_place_fits}
-use Rattle.script_run.proofs.SendLaws.{cause_then}
 use Rattle.script_run.proofs.run.run_lines.Goals as goal
 
 -- the report of all the lines
