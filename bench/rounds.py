@@ -60,11 +60,12 @@ def peak(command, path=os.devnull):
     """The most MiB of memory that a command, which reads a file, had resident.
 
     Linux counts what a process had resident before `exec` too, which would be all of Python. So a small shell starts the
-    command and ends, and Python, as the next parent that adopts children, waits for the command.
+    command and ends, and Python, as the next parent that adopts children, waits for the command. A shell gives what it starts
+    in the background no input, so the file goes by another number.
     """
     set_child_subreaper = 36
     ctypes.CDLL(None).prctl(set_child_subreaper, 1, 0, 0, 0)
-    starts = ["sh", "-c", '"$@" <&0 >/dev/null & exec echo $!', "sh"] + command
+    starts = ["sh", "-c", 'exec 3<&0; "$@" <&3 3<&- >/dev/null & exec echo $!', "sh"] + command
     with open(path, "rb") as source:
         pid = int(subprocess.run(starts, stdin=source, stdout=subprocess.PIPE, check=True).stdout)
     _, status, usage = os.wait4(pid, 0)
