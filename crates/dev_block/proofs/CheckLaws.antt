@@ -104,7 +104,7 @@ supported_fits kind limits sector bytes space task long =
     (if is_change kind && limits.read_only then Err IoErr else checked_type kind limits sector bytes space) (Ok task)
     (λ test e. refused (Fits task (length bytes) space limits.sectors) Unsupp task e)
     (λ test. by_choice (Fits task (length bytes) space limits.sectors) (is_change kind && limits.read_only) (Err IoErr) (checked_type kind limits sector bytes space) (Ok task)
-    (λ locked e. refused (Fits task (length bytes) space limits.sectors) IoErr task e)
+    (λ read_only e. refused (Fits task (length bytes) space limits.sectors) IoErr task e)
     (λ open_disk e. type_fits kind limits sector bytes space task long e))
 
 known_fits : (kind : Option RequestType) (limits : Limits) (sector : ℕ) (bytes : List ℕ) (space : ℕ) (task : Task) → 16 ≤ length bytes → checked_known kind limits sector bytes space ≡ Ok task

@@ -25,8 +25,8 @@ pub zeros_then : (from at : ℕ) (mem : List ℕ) (ps : List Piece) (bytes : Lis
 zeros_then from at mem ps bytes rules le =
     let row : List ℕ = replicate (at - from) 0 in
     let size : length row ≡ at - from = length-replicate {A = ℕ} (at - from) 0 in
-    let place : at ≡ from + length row = omega arith in
-    ap (λ (k : ℕ). scatter_from k (scatter_from from mem ps row) ps bytes) place ∙ scatter_from-append from mem ps row bytes (rules_inside (length mem) ps rules)
+    let location : at ≡ from + length row = omega arith in
+    ap (λ (k : ℕ). scatter_from k (scatter_from from mem ps row) ps bytes) location ∙ scatter_from-append from mem ps row bytes (rules_inside (length mem) ps rules)
 
 -- more zeros
 pub zeros_more : (from at count : ℕ) (mem : List ℕ) (ps : List Piece) → IsTrue (keeps_rules (length mem) ps) → from ≤ at

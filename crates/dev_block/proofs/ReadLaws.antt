@@ -18,8 +18,8 @@ use Rattle.dev_block.proofs.CallsLaws.{calls_one, calls_none, calls_to, calls_th
 pub scatter_behind : (mem : List ℕ) (ps : List Piece) (xs ys : List ℕ) (n : ℕ) → IsTrue (keeps_rules (length mem) ps) → length xs ≡ n
     → scatter_from n (scatter mem ps xs) ps ys ≡ scatter mem ps (xs ++ ys)
 scatter_behind mem ps xs ys n rules size =
-    let place : n ≡ 0 + length xs = omega arith in
-    ap (λ (k : ℕ). scatter_from k (scatter mem ps xs) ps ys) place
+    let location : n ≡ 0 + length xs = omega arith in
+    ap (λ (k : ℕ). scatter_from k (scatter mem ps xs) ps ys) location
     ∙ ap (λ (m : List ℕ). scatter_from (0 + length xs) m ps ys) (sym (scatter_from-zero mem ps xs))
     ∙ scatter_from-append 0 mem ps xs ys (rules_inside (length mem) ps rules)
     ∙ scatter_from-zero mem ps (xs ++ ys)

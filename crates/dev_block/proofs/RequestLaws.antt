@@ -21,5 +21,5 @@ pub segments_step : (xs ys : List Segment) (count i : ℕ) (bytes : List ℕ) �
     → ys ++ segments_at (count - (i + 1)) bytes (16 + 16 * (i + 1)) ≡ xs ++ segments_at (count - i) bytes (16 + 16 * i)
 segments_step xs ys count i bytes within more =
     let left : count - i ≡ suc (count - (i + 1)) = omega arith in
-    let place : 16 + 16 * (i + 1) ≡ 16 + 16 * i + 16 = omega arith in
-    rw (more, left, place) (append_assoc xs (segment_in (part bytes (16 + 16 * i) 16) ∷ []) (segments_at (count - (i + 1)) bytes (16 + 16 * i + 16)))
+    let location : 16 + 16 * (i + 1) ≡ 16 + 16 * i + 16 = omega arith in
+    rw (more, left, location) (append_assoc xs (segment_in (part bytes (16 + 16 * i) 16) ∷ []) (segments_at (count - (i + 1)) bytes (16 + 16 * i + 16)))

@@ -29,7 +29,7 @@ request state bytes n d = request_end bytes n state.capacity (cache_mode state.w
 -- what is checked of a disk that tells its sectors is what is checked of its view
 limits_told : (state : BlkState) (old : TrippedView) (image : List (List ℕ)) (outcomes : List Bool) → length image ≡ old.disk.count
     → limits_of state.capacity state.accepted.0 (state_of old image outcomes) ≡ limits state old
-limits_told state old image outcomes size = ap (λ n. record { capacity = state.capacity; accepted = state.accepted; sectors = n; read_only = old.disk.locked }) size
+limits_told state old image outcomes size = ap (λ n. record { capacity = state.capacity; accepted = state.accepted; sectors = n; read_only = old.disk.read_only }) size
 
 -- a request that is refused
 request_refused : (state : BlkState) (bytes : List ℕ) (n : ℕ) (old : TrippedView) (image : List (List ℕ)) (outcomes : List Bool) (refusal : Refusal) → length image ≡ old.disk.count

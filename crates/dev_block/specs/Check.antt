@@ -36,16 +36,20 @@ abbrev pub has_flags : ℕ → List Segment → Bool
 has_flags allowed segments = list_any (λ (s : Segment). nat_lt allowed s.flags) segments
 
 -- the most sectors that a segment may have (two limits of the configuration, VIRTIO 1.2, 5.2.4; 2,048 is our own)
-abbrev pub MOST_SECTORS : ℕ
-MOST_SECTORS = 2048
+abbrev pub LONGEST_SEGMENT : ℕ
+LONGEST_SEGMENT = 2048
 
 -- some segment has more
 abbrev pub is_long : List Segment → Bool
-is_long segments = list_any (λ (s : Segment). nat_lt MOST_SECTORS s.count) segments
+is_long segments = list_any (λ (s : Segment). nat_lt LONGEST_SEGMENT s.count) segments
 
--- so many bytes are 1 to 8 segments of 16 bytes
+-- the most segments of a request (our own)
+abbrev pub MOST_SEGMENTS : ℕ
+MOST_SEGMENTS = 8
+
+-- so many bytes are some segments of 16 bytes, not too many
 abbrev pub are_segments : ℕ → Bool
-are_segments size = (size % 16 == 0) && nat_le 1 (size / 16) && nat_le (size / 16) 8
+are_segments size = (size % 16 == 0) && nat_le 1 (size / 16) && nat_le (size / 16) MOST_SEGMENTS
 
 -- a reading request has room for whole sectors, which are in range
 abbrev pub checked_read : Limits → ℕ → ℕ → Result Task Refusal
@@ -62,7 +66,7 @@ abbrev pub checked_segments : Limits → ℕ → List Segment → Result Task Re
 checked_segments limits allowed segments =
     if has_flags allowed segments then Err Unsupp else if is_long segments || not (are_in_range limits segments) then Err IoErr else Ok (Clear segments)
 
--- a request with segments has 1 to 8 of them behind the header, and no other bytes
+-- a request with segments has some of them, not too many, behind the header, and no other bytes
 abbrev pub with_segments : Limits → ℕ → List ℕ → Result Task Refusal
 with_segments limits allowed readable =
     if are_segments (length readable - 16) then checked_segments limits allowed (segments_at ((length readable - 16) / 16) readable 16)

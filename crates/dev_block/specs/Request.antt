@@ -81,7 +81,7 @@ is_change WriteZeroes = true
 abbrev pub segment_in : List ℕ → Segment
 segment_in bytes = record { sector = little_number 8 bytes; count = little_number 4 (drop 8 bytes); flags = little_number 4 (drop 12 bytes) }
 
--- so many segments in bytes, from a place on
+-- so many segments in bytes, from a location on
 abbrev pub segments_at : ℕ → List ℕ → ℕ → List Segment
 segments_at zero bytes at = []
 segments_at (suc n) bytes at = segment_in (part bytes at 16) ∷ segments_at n bytes (at + 16)

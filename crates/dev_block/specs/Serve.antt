@@ -18,7 +18,7 @@ use Rattle.dev_block.specs.Answer.{carried_out, request_end, block_answer, writt
 
 -- what the device knows of a disk with a trip
 abbrev pub limits : BlkState → TrippedView → Limits
-limits state disk = record { capacity = state.capacity; accepted = state.accepted; sectors = disk.disk.count; read_only = disk.disk.locked }
+limits state disk = record { capacity = state.capacity; accepted = state.accepted; sectors = disk.disk.count; read_only = disk.disk.read_only }
 
 -- a task that a device can carry out: with so many readable bytes, so much room for data and a disk of so many sectors
 abbrev pub Fits : Task → ℕ → ℕ → ℕ → Type 0

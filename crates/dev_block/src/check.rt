@@ -4,7 +4,7 @@ ghost use Rattle.std.specs.Prelude.{◌≡◌, ◌+◌, ◌≤◌, ◌/◌, ◌-
 ghost use Rattle.std.specs.List.{list_all};
 ghost use Rattle.vq_common.specs.Piece.{keeps_rules, readable};
 ghost use Rattle.dev_block.specs.declared.request.Segment.{Segment};
-ghost use Rattle.dev_block.specs.Check.{MOST_SECTORS, is_below, is_in_range, are_in_range, are_segments, has_flags, is_long, checked, checked_read, checked_write, checked_segments, with_segments, checked_type, task_in};
+ghost use Rattle.dev_block.specs.Check.{LONGEST_SEGMENT, is_below, is_in_range, are_in_range, are_segments, has_flags, is_long, checked, checked_read, checked_write, checked_segments, with_segments, checked_type, task_in};
 
 use crate::request::{HEADER_SIZE, Header, Refusal, RequestType, SEGMENT_SIZE, Segment};
 use arrayvec::ArrayVec;
@@ -16,7 +16,10 @@ use vt_types::Features;
 pub(crate) const SECTOR_SIZE: u32 = 512;
 
 /// The most sectors that a segment may have (the two limits of VIRTIO 1.2, 5.2.4).
-const MOST_SECTORS: u32 = 2048;
+const LONGEST_SEGMENT: u32 = 2048;
+
+/// The most segments of a request (our own).
+pub(crate) const MOST_SEGMENTS: usize = 8;
 
 /// The flag that a segment of write zeroes may have: its sectors may be unmapped.
 const VIRTIO_BLK_WRITE_ZEROES_FLAG_UNMAP: u32 = 1;
@@ -33,7 +36,7 @@ pub(crate) enum Task {
     /// The device's id is read.
     Identify,
     /// The sectors of the segments are filled with zeros.
-    Clear(ArrayVec<Segment, 8>),
+    Clear(ArrayVec<Segment, MOST_SEGMENTS>),
 }
 
 /// What the device knows when it checks a request: its capacity in sectors, the accepted features, how many sectors the
@@ -65,14 +68,18 @@ fn has_flags(allowed: u32, segments: &[Segment]) -> bool
 fn is_long(segments: &[Segment]) -> bool
     ensures { result ≡ is_long segments.now }
 {
-    segments.iter().any(|segment| segment.count > MOST_SECTORS)
+    segments
+        .iter()
+        .any(|segment| segment.count > LONGEST_SEGMENT)
 }
 
-/// Whether so many bytes are 1 to 8 segments.
+/// Whether so many bytes are 1 to `MOST_SEGMENTS` segments.
 fn are_segments(size: u32) -> bool
     ensures { result ≡ are_segments size }
 {
-    size % SEGMENT_SIZE == 0 && size / SEGMENT_SIZE >= 1 && size / SEGMENT_SIZE <= 8
+    size % SEGMENT_SIZE == 0
+        && size / SEGMENT_SIZE >= 1
+        && size / SEGMENT_SIZE <= MOST_SEGMENTS as u32
 }
 
 impl Limits {
@@ -120,7 +127,7 @@ impl Limits {
     fn checked_segments(
         &self,
         allowed: u32,
-        segments: ArrayVec<Segment, 8>,
+        segments: ArrayVec<Segment, MOST_SEGMENTS>,
     ) -> Result<Task, Refusal>
         ensures { task_in result ≡ checked_segments self.now allowed segments.items }
     {

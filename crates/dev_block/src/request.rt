@@ -6,6 +6,7 @@ ghost use Rattle.vq_common.specs.Piece.{keeps_rules, readable};
 ghost use Rattle.dev_block.specs.Request.{header_of, type_of, is_supported, is_change, segment_in, segments_at};
 ghost use Rattle.dev_block.specs.Answer.{refusal_status};
 
+use crate::check::MOST_SEGMENTS;
 use arrayvec::ArrayVec;
 use bitflags::Flags;
 use byteorder::{ByteOrder, LittleEndian};
@@ -137,9 +138,13 @@ impl Segment {
     }
 
     /// The segments behind the header, of which there are `count`.
-    pub(crate) fn read_all(mem: &GuestMem, chain: &Chain, count: u32) -> ArrayVec<Segment, 8>
+    pub(crate) fn read_all(
+        mem: &GuestMem,
+        chain: &Chain,
+        count: u32,
+    ) -> ArrayVec<Segment, MOST_SEGMENTS>
         requires rules { IsTrue (keeps_rules (length mem.now.bytes) chain.now.pieces.items) }
-        requires few { count ≤ 8 }
+        requires few { count ≤ MOST_SEGMENTS }
         requires long { HEADER_SIZE + SEGMENT_SIZE * count ≤ length (readable mem.now.bytes chain.now.pieces.items) }
         ensures { result.items ≡ segments_at count (readable mem.now.bytes chain.now.pieces.items) 16 }
     {

@@ -1,6 +1,7 @@
 //! What a request does on the disk, sector by sector. The first call that fails ends it, and what was done stays.
 
 ghost use Rattle.std.specs.Prelude.{◌≡◌, ◌+◌, ◌*◌, ◌<◌, ◌≤◌, drop, length, IsTrue, All, is_ok};
+ghost use Rattle.vt_types.specs.Limits.{MOST_SECTORS};
 ghost use Rattle.vq_common.specs.Piece.{keeps_rules, readable};
 ghost use Rattle.vq_common.specs.Partial.{HasPages, MakesPagesOf};
 ghost use Rattle.dev_block.specs.declared.request.Segment.{Segment};
@@ -33,7 +34,7 @@ pub(crate) fn read_sectors<D: Disk>(
     requires pages { HasPages chain.now.pieces.items mem.old }
     requires few { count ≤ 16 }
     requires range { AreThere disk.old.disk.count sector count }
-    requires bound { disk.old.disk.count ≤ 65536 }
+    requires bound { disk.old.disk.count ≤ MOST_SECTORS }
     ensures reads { ReadsOver sector count chain.now.pieces.items mem.old.bytes mem.new.bytes disk.old disk.new result }
     ensures length { length mem.new.bytes ≡ length mem.old.bytes }
     ensures pages { MakesPagesOf chain.now.pieces.items mem.old mem.new }
@@ -57,7 +58,7 @@ fn write_sectors<D: Disk>(
     requires rules { IsTrue (keeps_rules (length mem.now.bytes) chain.now.pieces.items) }
     requires long { HEADER_SIZE + SECTOR_SIZE * count ≤ length (readable mem.now.bytes chain.now.pieces.items) }
     requires range { AreThere disk.old.disk.count sector count }
-    requires bound { disk.old.disk.count ≤ 65536 }
+    requires bound { disk.old.disk.count ≤ MOST_SECTORS }
     ensures { Calls (write_sectors count sector (drop 16 (readable mem.now.bytes chain.now.pieces.items))) disk.old (is_ok result) disk.new (is_ok result) }
 {
     let mut bytes = [0u8; 512];
@@ -71,7 +72,7 @@ fn write_sectors<D: Disk>(
 /// Fills sectors with zeros, one by one.
 fn clear_sectors<D: Disk>(sector: u64, count: u32, disk: &mut Tripped<D>) -> Result<(), Failed>
     requires range { AreThere disk.old.disk.count sector count }
-    requires bound { disk.old.disk.count ≤ 65536 }
+    requires bound { disk.old.disk.count ≤ MOST_SECTORS }
     ensures { Calls (clear_sectors count sector) disk.old (is_ok result) disk.new (is_ok result) }
 {
     let zeros = zero_sector();
@@ -84,7 +85,7 @@ fn clear_sectors<D: Disk>(sector: u64, count: u32, disk: &mut Tripped<D>) -> Res
 /// Fills the sectors of segments with zeros, in the order of the segments.
 fn clear_segments<D: Disk>(segments: &[Segment], disk: &mut Tripped<D>) -> Result<(), Failed>
     requires range { All (λ (s : Segment). AreThere disk.old.disk.count s.sector s.count) segments.now }
-    requires bound { disk.old.disk.count ≤ 65536 }
+    requires bound { disk.old.disk.count ≤ MOST_SECTORS }
     ensures { Calls (clear_segments segments.now) disk.old (is_ok result) disk.new (is_ok result) }
 {
     'segments: for segment in segments {
@@ -112,7 +113,7 @@ pub(crate) fn write_through<D: Disk>(
     requires rules { IsTrue (keeps_rules (length mem.now.bytes) chain.now.pieces.items) }
     requires long { HEADER_SIZE + SECTOR_SIZE * count ≤ length (readable mem.now.bytes chain.now.pieces.items) }
     requires range { AreThere disk.old.disk.count sector count }
-    requires bound { disk.old.disk.count ≤ 65536 }
+    requires bound { disk.old.disk.count ≤ MOST_SECTORS }
     ensures { Calls (write_through count sector (drop 16 (readable mem.now.bytes chain.now.pieces.items)) mode) disk.old (is_ok result) disk.new (is_ok result) }
 {
     write_sectors(mem, chain, sector, count, disk)?;
@@ -126,7 +127,7 @@ pub(crate) fn clear_through<D: Disk>(
     disk: &mut Tripped<D>,
 ) -> Result<(), Failed>
     requires range { All (λ (s : Segment). AreThere disk.old.disk.count s.sector s.count) segments.now }
-    requires bound { disk.old.disk.count ≤ 65536 }
+    requires bound { disk.old.disk.count ≤ MOST_SECTORS }
     ensures { Calls (clear_through segments.now mode) disk.old (is_ok result) disk.new (is_ok result) }
 {
     clear_segments(segments, disk)?;

@@ -1,6 +1,7 @@
 //! What a block device does with a chain (VIRTIO 1.2, 5.2.6).
 
 ghost use Rattle.std.specs.Prelude.{◌≡◌, ◌+◌, ◌-◌, ◌<◌, ◌≤◌, length, IsTrue};
+ghost use Rattle.vt_types.specs.Limits.{MOST_SECTORS};
 ghost use Rattle.vq_common.specs.Pages.{PAGES_OF_SCATTER};
 ghost use Rattle.vq_common.specs.Piece.{keeps_rules, readable, room};
 ghost use Rattle.vq_common.specs.Partial.{HasPages, MakesPagesOf};
@@ -30,7 +31,7 @@ fn device_id() -> [u8; 20]
 /// What the device knows of a disk when it checks a request.
 fn limits_of<D: Disk>(state: &BlkState, disk: &Tripped<D>) -> Limits
     ensures value { result ≡ limits state.now disk.now }
-    ensures bound { disk.now.disk.count ≤ 65536 }
+    ensures bound { disk.now.disk.count ≤ MOST_SECTORS }
 {
     Limits {
         capacity: state.capacity,
@@ -61,7 +62,7 @@ fn carry_out<D: Disk>(
     requires rules { IsTrue (keeps_rules (length mem.old.bytes) chain.now.pieces.items) }
     requires pages { HasPages chain.now.pieces.items mem.old }
     requires fits { Fits (task_of task.now) (length (readable mem.old.bytes chain.now.pieces.items)) (room chain.now.pieces.items - 1) disk.old.disk.count }
-    requires bound { disk.old.disk.count ≤ 65536 }
+    requires bound { disk.old.disk.count ≤ MOST_SECTORS }
     ensures carries { CarriesOut (task_of task.now) mode chain.now.pieces.items mem.old.bytes mem.new.bytes disk.old disk.new result }
     ensures length { length mem.new.bytes ≡ length mem.old.bytes }
     ensures pages { MakesPagesOf chain.now.pieces.items mem.old mem.new }

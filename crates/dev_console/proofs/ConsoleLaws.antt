@@ -10,7 +10,7 @@ use Rattle.vq_common.proofs.CutLaws.{readable-same_bytes, room-same_bytes, scatt
 use Rattle.dev_console.specs.Console.{ConsoleState, ConsoleAnswer, MOST_WAITING, console_answer, no_answer, receive_answer, transmit_answer, with_input}
 use Rattle.dev_console.specs.Serve.{Serves, chain_answer}
 
--- the readable bytes of a chain are at most 8,192, so `reserve` makes room for those of 129 chains
+-- the readable bytes of a chain are at most 8,192, so `reserve` sees to spare bytes for those of 129 chains
 pub readable_fits : (mem : List ℕ) (ps : List Piece) → IsTrue (keeps_rules (length mem) ps) → length (readable mem ps) ≤ 8192
 readable_fits mem ps test = omega (arith, length-readable mem ps (rules_inside (length mem) ps test), readable_len-le (length mem) ps test)
 

@@ -1,6 +1,6 @@
 use Rattle.std.specs.Prelude.{ℕ, ◌-◌, ◌==◌, List, [], ◌++◌, take, drop, length, if◌then◌else◌}
 
--- a console: the input that waits, the bytes that were written, and how many more there is room for
+-- a console: the input that waits, the bytes that were written, and how many more are spare
 pub record ConsoleState : Type 0 where
   pub waiting : List ℕ
   pub console : List ℕ

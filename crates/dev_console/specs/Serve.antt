@@ -8,7 +8,7 @@ abbrev pub chain_answer : ℕ → List ℕ → List Piece → ConsoleState → C
 chain_answer queue mem pieces s = console_answer queue (readable mem pieces) (room pieces) s.waiting s.console
 
 -- an answer is given: its bytes are in the writable pieces, their number is told, and each byte that joins the console
--- takes its room
+-- takes a spare one
 pub record Serves (answer : ConsoleAnswer) (pieces : List Piece) (mem mem2 : List ℕ) (old new : ConsoleState) (count : ℕ) : Type 0 where
   pub memory : mem2 ≡ scatter mem pieces answer.written
   pub number : count ≡ length answer.written

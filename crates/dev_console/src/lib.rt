@@ -8,4 +8,4 @@ mod state;
 mod tests;
 
 pub use serve::serve_chain;
-pub use state::{CONSOLE_ROOM, ConState, WAITING_ROOM};
+pub use state::{CONSOLE_SPARE, ConState, MOST_WAITING, limits_are_defined};

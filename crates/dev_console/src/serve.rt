@@ -17,7 +17,7 @@ pub fn serve_chain(mem: &mut GuestMem, chain: &Chain, queue: u16, state: &mut Co
     requires queue { queue ≤ 1 }
     requires waits { queue ≡ 0 → 1 ≤ length state.old.waiting }
     requires rules { IsTrue (keeps_rules (length mem.old.bytes) chain.now.pieces.items) }
-    requires room { queue ≡ 1 → length (readable mem.old.bytes chain.now.pieces.items) ≤ state.old.spare }
+    requires spare { queue ≡ 1 → length (readable mem.old.bytes chain.now.pieces.items) ≤ state.old.spare }
     requires pages { PAGES_OF_SCATTER ≤ mem.old.spare }
     ensures serves { Serves (chain_answer queue mem.old.bytes chain.now.pieces.items state.old) chain.now.pieces.items mem.old.bytes mem.new.bytes state.old state.new result }
     ensures pages { mem.old.spare ≤ mem.new.spare + PAGES_OF_SCATTER }
@@ -48,7 +48,7 @@ fn receive(mem: &mut GuestMem, chain: &Chain, state: &mut ConState) -> u32
 /// Adds the bytes of the readable pieces to the console's.
 fn transmit(mem: &GuestMem, chain: &Chain, state: &mut ConState)
     requires rules { IsTrue (keeps_rules (length mem.now.bytes) chain.now.pieces.items) }
-    requires room { length (readable mem.now.bytes chain.now.pieces.items) ≤ state.old.spare }
+    requires spare { length (readable mem.now.bytes chain.now.pieces.items) ≤ state.old.spare }
     ensures waiting { state.new.waiting ≡ state.old.waiting }
     ensures console { state.new.console ≡ state.old.console ++ readable mem.now.bytes chain.now.pieces.items }
     ensures spare { state.new.spare + length state.new.console ≡ state.old.spare + length state.old.console }

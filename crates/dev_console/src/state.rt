@@ -2,20 +2,27 @@
 
 ghost use Rattle.std.specs.Prelude.{◌≡◌, ℕ, ◌+◌, ◌-◌, ◌≤◌, [], ◌∷◌, ◌++◌, length, max, drop, IfOk, IsOk, OnOk, OnErr};
 ghost use Rattle.guest_mem.specs.Memory.{part};
+ghost use Rattle.dev_console.specs.Console as spec;
 ghost use Rattle.dev_console.specs.Console.{with_input};
 
 use guest_mem::GuestMem;
 use std::alloc::Global;
 use std::marker::Model;
-use vt_types::Memory;
+use vt_types::{LONGEST_BUFFER, MOST_EVENTS, Memory};
 
-/// The room for input that waits, in bytes (our own).
-pub const WAITING_ROOM: u32 = 4096;
+/// The most bytes of input that wait (our own).
+pub const MOST_WAITING: u32 = 4096;
 
-/// The room that `reserve` makes for console bytes: that of 129 buffers of 8,192 bytes (our own).
-pub const CONSOLE_ROOM: u32 = 129 * 8192;
+/// The spare bytes of the console that `reserve` sees to: those of the longest buffer for each event of an operation, and
+/// for one more (our own).
+pub const CONSOLE_SPARE: u32 = (MOST_EVENTS + 1) * LONGEST_BUFFER as u32;
 
-/// The input that waits, the bytes that were written, and for how many more there is room.
+/// The most input that waits is the definitions'. Does nothing.
+pub fn limits_are_defined()
+    ensures { MOST_WAITING ≡ spec.MOST_WAITING }
+{}
+
+/// The input that waits, the bytes that were written, and how many more are spare.
 #[derive(Drop)]
 pub struct ConState {
     waiting: Vec<u8>,
@@ -25,42 +32,42 @@ pub struct ConState {
 
 impl Model for ConState {
     ghost use Rattle.std.specs.Prelude.{◌+◌, ◌≤◌, vec_len, vec_capacity};
-    ghost use Rattle.dev_console.specs.Console.{ConsoleState};
+    ghost use Rattle.dev_console.specs.Console.{ConsoleState, MOST_WAITING};
 
     ghost Value = { ConsoleState };
 
     ghost view = { λ s. record { waiting = s.waiting.items; console = s.console.items; spare = s.spare } };
 
-    ghost invariant = { λ s. (vec_len s.waiting ≤ 4096) × (4096 ≤ vec_capacity s.waiting) × (vec_len s.console + s.spare ≤ vec_capacity s.console) };
+    ghost invariant = { λ s. (vec_len s.waiting ≤ MOST_WAITING) × (MOST_WAITING ≤ vec_capacity s.waiting) × (vec_len s.console + s.spare ≤ vec_capacity s.console) };
 }
 
 impl ConState {
-    /// A console for which no input waits and to which nothing was written. Makes the room for all input that can wait.
+    /// A console for which no input waits and to which nothing was written. Takes the memory for all input that can wait.
     pub fn new(alloc: Global) -> Result<ConState, Memory>
         ensures { IfOk result (λ s. s ≡ record { waiting = []; console = []; spare = 0 }) }
     {
         Ok(ConState {
-            waiting: Vec::with_capacity(alloc, WAITING_ROOM as usize)?,
+            waiting: Vec::with_capacity(alloc, MOST_WAITING as usize)?,
             console: Vec::new(alloc),
             spare: 0,
         })
     }
 
-    /// Makes room for at least `CONSOLE_ROOM` console bytes, and for no more than there was or these. Where there is the
-    /// room it does not answer `Memory`.
+    /// Sees to it that there are at least `CONSOLE_SPARE` spare bytes, and no more than there were or these. Where there are
+    /// so many it does not answer `Memory`.
     pub fn reserve(&mut self, alloc: Global) -> Result<(), Memory>
         ensures waiting { self.new.waiting ≡ self.old.waiting }
         ensures console { self.new.console ≡ self.old.console }
         ensures spare { self.old.spare ≤ self.new.spare }
-        ensures most { self.new.spare ≤ max self.old.spare CONSOLE_ROOM }
-        ensures ok { OnOk result (CONSOLE_ROOM ≤ self.new.spare) }
-        ensures enough { CONSOLE_ROOM ≤ self.old.spare → IsOk result }
+        ensures most { self.new.spare ≤ max self.old.spare CONSOLE_SPARE }
+        ensures ok { OnOk result (CONSOLE_SPARE ≤ self.new.spare) }
+        ensures enough { CONSOLE_SPARE ≤ self.old.spare → IsOk result }
     {
         let _ = alloc;
-        let room = CONSOLE_ROOM as usize;
-        if self.spare < room {
-            self.console.reserve(room)?;
-            self.spare = room;
+        let spare = CONSOLE_SPARE as usize;
+        if self.spare < spare {
+            self.console.reserve(spare)?;
+            self.spare = spare;
         }
         Ok(())
     }
@@ -68,7 +75,7 @@ impl ConState {
     /// How many bytes of input wait.
     pub fn waiting(&self) -> u32
         ensures value { result ≡ length self.now.waiting }
-        ensures most { result ≤ WAITING_ROOM }
+        ensures most { result ≤ MOST_WAITING }
     {
         self.waiting.len() as u32
     }
@@ -80,11 +87,11 @@ impl ConState {
         self.console.as_slice()
     }
 
-    /// Input comes. What would pass `WAITING_ROOM` bytes is dropped.
+    /// Input comes. What would pass `MOST_WAITING` bytes is dropped.
     pub fn key(&mut self, bytes: &[u8])
         ensures { self.new ≡ record self.old { waiting = with_input self.old.waiting bytes.now } }
     {
-        let free = WAITING_ROOM as usize - self.waiting.len();
+        let free = MOST_WAITING as usize - self.waiting.len();
         let count = bytes.len().min(free);
         let _fits = self.waiting.extend_from_slice(&bytes[..count]);
     }
@@ -101,7 +108,7 @@ impl ConState {
     /// The input that waits.
     pub(crate) fn waiting_bytes(&self) -> &[u8]
         ensures value { result.now ≡ self.now.waiting }
-        ensures most { length result.now ≤ WAITING_ROOM }
+        ensures most { length result.now ≤ MOST_WAITING }
     {
         self.waiting.as_slice()
     }
@@ -117,7 +124,7 @@ impl ConState {
     /// Adds bytes of guest memory to the console's.
     pub(crate) fn write(&mut self, mem: &GuestMem, addr: u64, len: u32)
         requires inside { addr + len ≤ length mem.now.bytes }
-        requires room { len ≤ self.old.spare }
+        requires spare { len ≤ self.old.spare }
         ensures { self.new ≡ record self.old { console = self.old.console ++ part mem.now.bytes addr len; spare = self.old.spare - len } }
     {
         let start = self.console.len();

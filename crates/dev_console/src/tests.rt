@@ -1,7 +1,7 @@
 ghost use Rattle.std.specs.Prelude.{◌≤◌, length, IsTrue};
 ghost use Rattle.vq_common.specs.Piece.{keeps_rules, readable};
 
-use crate::{ConState, serve_chain};
+use crate::{ConState, limits_are_defined, serve_chain};
 use arrayvec::ArrayVec;
 use guest_mem::GuestMem;
 use std::process::Abort;
@@ -32,6 +32,7 @@ fn serves_chains(rt: HostRuntime) -> Result<(), Fail> {
     let mut mem = GuestMem::new(rt.alloc(), 64)?;
     mem.reserve(rt.alloc(), 17)?;
     let mut state = ConState::new(rt.alloc())?;
+    limits_are_defined();
     assert_eq!(rt; mem.write(16, b"hello, world"), Ok(()));
     state.key(b"abc");
     // the queue, the chain, how many bytes were written, and what waits and was printed then

@@ -4,9 +4,9 @@ use Rattle.arrayvec.specs.ArrayVec.{ArrayVec}
 use Rattle.guest_mem.specs.Memory.{part}
 use Rattle.dev_net.specs.declared.sent.SentFrame.{SentFrame}
 
--- the frames that wait in these rooms
+-- the frames that wait in these buffers
 abbrev pub waiting_frames : List (ArrayVec ℕ) → List (List ℕ)
-waiting_frames rooms = map (λ (r : ArrayVec ℕ). r.items) rooms
+waiting_frames buffers = map (λ (b : ArrayVec ℕ). b.items) buffers
 
 -- the sent frames that lie so among these bytes
 abbrev pub sent_frames : List ℕ → List SentFrame → List (List ℕ)

@@ -1,6 +1,6 @@
 use Rattle.std.specs.Prelude.{ℕ, ◌+◌, ◌==◌, nat_lt, List, [], ◌∷◌, ◌++◌, drop, length, replicate, Option, Some, None, if◌then◌else◌}
 
--- a network device: the frames that wait, the frames that were sent, and how many more of these there is room for
+-- a network device: the frames that wait, the frames that were sent, and how many more of these are spare
 pub record NetworkState : Type 0 where
   pub waiting : List (List ℕ)
   pub sent : List (List ℕ)

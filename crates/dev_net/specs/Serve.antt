@@ -17,7 +17,7 @@ abbrev pub written_count : Option (List ℕ) → Option ℕ
 written_count None = None
 written_count (Some bytes) = Some (length bytes)
 
--- an answer is given: its bytes are in the writable pieces, their number is told, and each frame that is sent takes its room
+-- an answer is given: its bytes are in the writable pieces, their number is told, and each frame that is sent takes a spare one
 pub record Serves (answer : NetworkAnswer) (pieces : List Piece) (mem mem2 : List ℕ) (old new : NetworkState) (count : Option ℕ) : Type 0 where
   pub memory : mem2 ≡ memory_after mem pieces answer.written
   pub number : count ≡ written_count answer.written

@@ -9,4 +9,4 @@ mod state;
 mod tests;
 
 pub use serve::serve_chain;
-pub use state::{FRAMES_ROOM, LONGEST_WAITING, MOST_WAITING, NetState};
+pub use state::{FRAMES_SPARE, MOST_WAITING, NetState, limits_are_defined};

@@ -1,6 +1,7 @@
 //! What a network device does with a chain.
 
 ghost use Rattle.std.specs.Prelude.{◌≡◌, ◌+◌, ◌≤◌, ◌++◌, length, replicate, IsTrue};
+ghost use Rattle.vt_types.specs.Limits.{LONGEST_FRAME};
 ghost use Rattle.vq_common.specs.Pages.{PAGES_OF_SCATTER};
 ghost use Rattle.vq_common.specs.Piece.{keeps_rules, readable};
 ghost use Rattle.dev_net.specs.Network.{RECEIVED_HEADER, with_sent};
@@ -10,9 +11,13 @@ use crate::state::{NetState, WaitingFrame};
 use arrayvec::ArrayVec;
 use guest_mem::GuestMem;
 use vq_common::Chain;
+use vt_types::LONGEST_FRAME;
 
 /// How many bytes the header in front of a frame has (VIRTIO 1.2, 5.1.6).
 pub(crate) const HEADER_SIZE: u32 = 12;
+
+/// The most bytes of a frame that waits, with its header.
+const LONGEST_PACKET: usize = HEADER_SIZE as usize + LONGEST_FRAME;
 
 /// The header of a frame that a device gives: no flags, no offloads, and one buffer (VIRTIO 1.2, 5.1.6.4).
 const RECEIVED_HEADER: [u8; 12] = [0, 0, 0, 0, 0, 0, 0, 0, 0, 0, 1, 0];
@@ -31,7 +36,7 @@ pub fn serve_chain(
     requires queue { queue ≤ 1 }
     requires waits { queue ≡ 0 → 1 ≤ length state.old.waiting }
     requires rules { IsTrue (keeps_rules (length mem.old.bytes) chain.now.pieces.items) }
-    requires room { queue ≡ 1 → 1 ≤ state.old.spare }
+    requires spare { queue ≡ 1 → 1 ≤ state.old.spare }
     requires pages { PAGES_OF_SCATTER ≤ mem.old.spare }
     ensures serves { Serves (chain_answer queue mem.old.bytes chain.now.pieces.items state.old) chain.now.pieces.items mem.old.bytes mem.new.bytes state.old state.new result }
     ensures pages { mem.old.spare ≤ mem.new.spare + PAGES_OF_SCATTER }
@@ -45,8 +50,8 @@ pub fn serve_chain(
 }
 
 /// A frame with its header.
-fn with_header(frame: &[u8]) -> ArrayVec<u8, 2060>
-    requires { length frame.now ≤ 2048 }
+fn with_header(frame: &[u8]) -> ArrayVec<u8, LONGEST_PACKET>
+    requires { length frame.now ≤ LONGEST_FRAME }
     ensures { result.items ≡ RECEIVED_HEADER ++ frame.now }
 {
     let mut packet = ArrayVec::new();
@@ -55,7 +60,7 @@ fn with_header(frame: &[u8]) -> ArrayVec<u8, 2060>
     packet
 }
 
-/// Takes the front frame, and where there is room writes its header and its bytes over the writable pieces.
+/// Takes the front frame, and where the chain has room for them writes its header and its bytes over the writable pieces.
 fn receive(mem: &mut GuestMem, chain: &Chain, state: &mut NetState) -> Option<u32>
     requires rules { IsTrue (keeps_rules (length mem.old.bytes) chain.now.pieces.items) }
     requires waits { 1 ≤ length state.old.waiting }
@@ -76,7 +81,7 @@ fn receive(mem: &mut GuestMem, chain: &Chain, state: &mut NetState) -> Option<u3
 /// Sends the readable bytes behind the header, where a whole header is there.
 fn transmit(mem: &GuestMem, chain: &Chain, state: &mut NetState)
     requires rules { IsTrue (keeps_rules (length mem.now.bytes) chain.now.pieces.items) }
-    requires room { 1 ≤ state.old.spare }
+    requires spare { 1 ≤ state.old.spare }
     ensures waiting { state.new.waiting ≡ state.old.waiting }
     ensures sent { state.new.sent ≡ with_sent state.old.sent (readable mem.now.bytes chain.now.pieces.items) }
     ensures spare { state.new.spare + length state.new.sent ≡ state.old.spare + length state.old.sent }

@@ -2,8 +2,10 @@
 
 ghost use Rattle.std.specs.Prelude.{◌≡◌, ℕ, ◌+◌, ◌-◌, ◌<◌, ◌≤◌, [], ◌∷◌, ◌++◌, length, max, Some, IfOk, IsOk, OnOk, IsTrue, vec_len, vec_capacity};
 ghost use Rattle.std.specs.List.{slice_get};
+ghost use Rattle.vt_types.specs.Limits.{LONGEST_BUFFER, LONGEST_FRAME};
 ghost use Rattle.guest_mem.specs.Memory.{part};
 ghost use Rattle.vq_common.specs.Piece.{keeps_rules, readable, readable_len};
+ghost use Rattle.dev_net.specs.Network as spec;
 ghost use Rattle.dev_net.specs.Network.{HEADER_LENGTH, with_frame};
 
 use crate::sent::SentFrame;
@@ -14,24 +16,23 @@ use std::alloc::{AllocError, Global};
 use std::collections::VecDeque;
 use std::marker::Model;
 use vq_common::Chain;
-use vt_types::Memory;
+use vt_types::{LONGEST_BUFFER, LONGEST_FRAME, MOST_EVENTS, Memory};
 
 /// How many frames may wait (our own).
 pub const MOST_WAITING: u32 = 64;
 
-/// The most bytes that a frame which waits may have (our own).
-pub const LONGEST_WAITING: usize = 2048;
+/// How many spare frames `reserve` sees to: one for each event of an operation, and one more (our own).
+pub const FRAMES_SPARE: u32 = MOST_EVENTS + 1;
 
-/// For how many sent frames `reserve` makes room (our own).
-pub const FRAMES_ROOM: u32 = 129;
-
-/// The room that is kept for each frame that may still be sent, in bytes: no buffer has more (our own).
-const FRAME_SIZE: usize = 8192;
+/// The most frames that wait are the definitions'. Does nothing.
+pub fn limits_are_defined()
+    ensures { MOST_WAITING ≡ spec.MOST_WAITING }
+{}
 
 /// A frame that waits.
-pub(crate) type WaitingFrame = ArrayVec<u8, LONGEST_WAITING>;
+pub(crate) type WaitingFrame = ArrayVec<u8, LONGEST_FRAME>;
 
-/// The frames that wait, the frames that were sent, one behind the other, and for how many more there is room.
+/// The frames that wait, the frames that were sent, one behind the other, and how many more are spare.
 #[derive(Drop)]
 pub struct NetState {
     waiting: VecDeque<WaitingFrame>,
@@ -43,18 +44,19 @@ pub struct NetState {
 impl Model for NetState {
     ghost use Rattle.std.specs.Prelude.{◌+◌, ◌*◌, ◌<◌, ◌≤◌, ◌^◌, length, IsTrue, vec_len, vec_capacity};
     ghost use Rattle.std.specs.VecDeque.{deque_len, deque_capacity};
-    ghost use Rattle.dev_net.specs.Network.{NetworkState};
+    ghost use Rattle.vt_types.specs.Limits.{LONGEST_BUFFER};
+    ghost use Rattle.dev_net.specs.Network.{MOST_WAITING, NetworkState};
     ghost use Rattle.dev_net.specs.Frames.{waiting_frames, sent_frames, are_inside};
 
     ghost Value = { NetworkState };
 
     ghost view = { λ s. record { waiting = waiting_frames s.waiting.items; sent = sent_frames s.bytes.items s.sent.items; spare = s.spare } };
 
-    ghost invariant = { λ s. (deque_len s.waiting ≤ 64) × (64 ≤ deque_capacity s.waiting) × (vec_len s.bytes + 8192 * s.spare ≤ vec_capacity s.bytes) × (vec_len s.sent + s.spare ≤ vec_capacity s.sent) × (vec_len s.sent + s.spare < 2 ^ 32) × IsTrue (are_inside (length s.bytes.items) s.sent.items) };
+    ghost invariant = { λ s. (deque_len s.waiting ≤ MOST_WAITING) × (MOST_WAITING ≤ deque_capacity s.waiting) × (vec_len s.bytes + LONGEST_BUFFER * s.spare ≤ vec_capacity s.bytes) × (vec_len s.sent + s.spare ≤ vec_capacity s.sent) × (vec_len s.sent + s.spare < 2 ^ 32) × IsTrue (are_inside (length s.bytes.items) s.sent.items) };
 }
 
 impl NetState {
-    /// A network device for which no frame waits and which sent none. Makes the room for all frames that can wait.
+    /// A network device for which no frame waits and which sent none. Takes the memory for all frames that can wait.
     pub fn new(alloc: Global) -> Result<NetState, Memory>
         ensures { IfOk result (λ s. s ≡ record { waiting = []; sent = []; spare = 0 }) }
     {
@@ -66,24 +68,24 @@ impl NetState {
         })
     }
 
-    /// Makes room for at least `FRAMES_ROOM` sent frames, and for no more than there was or these. Where their number would
-    /// pass 32 bits it answers `Memory`; where there is the room it does not.
+    /// Sees to it that at least `FRAMES_SPARE` frames are spare, and no more than there were or these. Where the number of
+    /// sent frames would pass 32 bits it answers `Memory`; where so many are spare it does not.
     pub fn reserve(&mut self, alloc: Global) -> Result<(), Memory>
         ensures waiting { self.new.waiting ≡ self.old.waiting }
         ensures sent { self.new.sent ≡ self.old.sent }
         ensures spare { self.old.spare ≤ self.new.spare }
-        ensures most { self.new.spare ≤ max self.old.spare FRAMES_ROOM }
-        ensures ok { OnOk result (FRAMES_ROOM ≤ self.new.spare) }
-        ensures enough { FRAMES_ROOM ≤ self.old.spare → IsOk result }
+        ensures most { self.new.spare ≤ max self.old.spare FRAMES_SPARE }
+        ensures ok { OnOk result (FRAMES_SPARE ≤ self.new.spare) }
+        ensures enough { FRAMES_SPARE ≤ self.old.spare → IsOk result }
     {
         let _ = alloc;
-        if self.spare < FRAMES_ROOM {
-            if self.sent.len() > (u32::MAX - FRAMES_ROOM) as usize {
+        if self.spare < FRAMES_SPARE {
+            if self.sent.len() > (u32::MAX - FRAMES_SPARE) as usize {
                 return Err(AllocError);
             }
-            self.bytes.reserve(FRAMES_ROOM as usize * FRAME_SIZE)?;
-            self.sent.reserve(FRAMES_ROOM as usize)?;
-            self.spare = FRAMES_ROOM;
+            self.bytes.reserve(FRAMES_SPARE as usize * LONGEST_BUFFER)?;
+            self.sent.reserve(FRAMES_SPARE as usize)?;
+            self.spare = FRAMES_SPARE;
         }
         Ok(())
     }
@@ -98,13 +100,13 @@ impl NetState {
 
     /// A frame comes. Where `MOST_WAITING` frames wait it is dropped.
     pub fn arrive(&mut self, frame: &[u8])
-        requires { length frame.now ≤ LONGEST_WAITING }
+        requires { length frame.now ≤ LONGEST_FRAME }
         ensures { self.new ≡ record self.old { waiting = with_frame self.old.waiting frame.now } }
     {
         if self.waiting.len() < MOST_WAITING as usize {
             let mut copy = WaitingFrame::new();
             let _fits = copy.try_extend_from_slice(frame);
-            let _room = self.waiting.push_back(copy);
+            let _pushed = self.waiting.push_back(copy);
         }
     }
 
@@ -138,8 +140,8 @@ impl NetState {
     pub(crate) fn send(&mut self, mem: &GuestMem, chain: &Chain, len: u32)
         requires rules { IsTrue (keeps_rules (length mem.now.bytes) chain.now.pieces.items) }
         requires whole { HEADER_LENGTH + len ≡ readable_len chain.now.pieces.items }
-        requires few { len ≤ 8192 }
-        requires room { 1 ≤ self.old.spare }
+        requires few { len ≤ LONGEST_BUFFER }
+        requires spare { 1 ≤ self.old.spare }
         ensures { self.new ≡ record self.old { sent = self.old.sent ++ part (readable mem.now.bytes chain.now.pieces.items) HEADER_LENGTH len ∷ []; spare = self.old.spare - 1 } }
     {
         let start = self.bytes.len();
@@ -150,12 +152,12 @@ impl NetState {
     }
 }
 
-/// Adds the `len` readable bytes of a chain behind the header to a list that has room for them.
+/// Adds the `len` readable bytes of a chain behind the header to a list that has spare bytes for them.
 fn add_frame(bytes: &mut Vec<u8>, mem: &GuestMem, chain: &Chain, len: u32)
     requires rules { IsTrue (keeps_rules (length mem.now.bytes) chain.now.pieces.items) }
     requires whole { HEADER_LENGTH + len ≡ readable_len chain.now.pieces.items }
-    requires few { len ≤ 8192 }
-    requires room { vec_len bytes.old + 8192 ≤ vec_capacity bytes.old }
+    requires few { len ≤ LONGEST_BUFFER }
+    requires spare { vec_len bytes.old + LONGEST_BUFFER ≤ vec_capacity bytes.old }
     ensures bytes { bytes.new.items ≡ bytes.old.items ++ part (readable mem.now.bytes chain.now.pieces.items) HEADER_LENGTH len }
     ensures length { vec_len bytes.new ≡ vec_len bytes.old + len }
     ensures capacity { vec_capacity bytes.old ≤ vec_capacity bytes.new }

@@ -1,7 +1,7 @@
 ghost use Rattle.std.specs.Prelude.{length, IsTrue};
 ghost use Rattle.vq_common.specs.Piece.{keeps_rules};
 
-use crate::{NetState, serve_chain};
+use crate::{NetState, limits_are_defined, serve_chain};
 use arrayvec::ArrayVec;
 use guest_mem::GuestMem;
 use std::process::Abort;
@@ -30,6 +30,7 @@ fn serves_chains(rt: HostRuntime) -> Result<(), Fail> {
     let mut mem = GuestMem::new(rt.alloc(), 64)?;
     mem.reserve(rt.alloc(), 17)?;
     let mut state = NetState::new(rt.alloc())?;
+    limits_are_defined();
     assert_eq!(rt; mem.write(0, b"headerheaderhi, net!"), Ok(()));
     state.arrive(&[9; 60]);
     state.arrive(b"a frame!");

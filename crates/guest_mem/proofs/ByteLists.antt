@@ -49,7 +49,7 @@ IsByteList-little_bytes n x = low_first_bytes 0 n x
 pub IsByteList-big_bytes : (n x : ℕ) → IsByteList (big_bytes n x)
 IsByteList-big_bytes n x = high_first_bytes n x
 
--- what is read at any place is a byte, past the end too
+-- what is read at any location is a byte, past the end too
 slice_index-lt : (m : List ℕ) → IsByteList m → (i : ℕ) → slice_index m i < 256
 slice_index-lt m bytes i = elim (cases_lt i (length m)) [ inl within ↦ bytes i 0 within | inr past ↦ rw (get_or_past m i 0 past) (omega arith) ]
 

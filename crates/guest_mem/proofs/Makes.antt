@@ -77,8 +77,8 @@ one_there made first n i are within =
 pub there_at : (made : List Bool) (addr count i : ℕ) → AreThere made addr count → i < count → get_or made ((addr + i) / 4096) false ≡ true
 there_at made addr count i are within =
     let page : ℕ = (addr + i) / 4096 - addr / 4096 in
-    let place : (addr + i) / 4096 ≡ addr / 4096 + page = omega arith in
-    ap (λ (k : ℕ). get_or made k false) place
+    let location : (addr + i) / 4096 ≡ addr / 4096 + page = omega arith in
+    ap (λ (k : ℕ). get_or made k false) location
     ∙ one_there made (addr / 4096) (pages_touched addr count) page are (omega (arith, touched_some addr count (omega arith)))
 
 -- the pages of a list that were made, and those that were not

@@ -45,7 +45,7 @@ made_by-set numbers i n inside some =
 pub made_by-same : (numbers : List ℕ) (i : ℕ) → i < length numbers → 0 < get_or numbers i 0 → made_by numbers ≡ put_at (made_by numbers) i (true ∷ [])
 made_by-same numbers i inside some = ap made_by (sym (set-get_or numbers i 0)) ∙ made_by-set numbers i (get_or numbers i 0) inside some
 
--- what stands at a place once a number was set
+-- what stands at a location once a number was set
 get_or-set_cases : (numbers : List ℕ) (i n j : ℕ) → i < length numbers → ((j ≡ i) × (get_or (set numbers i n) j 0 ≡ n)) ⊎ (get_or (set numbers i n) j 0 ≡ get_or numbers j 0)
 get_or-set_cases numbers i n j inside =
     elim (cases_eq j i) [ inl same ↦ inl (same, ap (λ (k : ℕ). get_or (set numbers i n) k 0) same ∙ get_or-set_same numbers i n 0 inside) | inr differs ↦ inr (get_or-set_other numbers i j n 0 differs) ]
@@ -73,9 +73,9 @@ module _ (pages : List (List ℕ)) (numbers : List ℕ) (len : ℕ) (h : IsMappe
       → part (take len (joined pages numbers)) at k ≡ part (page pages (get_or numbers (at / 4096) 0)) (at % 4096) k
   part-seen at k some inside within =
       let all : List ℕ = joined pages numbers in
-      let place : at ≡ at / 4096 * 4096 + at % 4096 = omega arith in
+      let location : at ≡ at / 4096 * 4096 + at % 4096 = omega arith in
       part-take all len at k inside
-      ∙ ap (λ (j : ℕ). part all j k) place
+      ∙ ap (λ (j : ℕ). part all j k) location
       ∙ sym (part-part all (at / 4096 * 4096) 4096 (at % 4096) k within)
       ∙ ap (λ (w : List ℕ). part w (at % 4096) k) (tile_at 4096 (page pages) numbers (at / 4096) sizes (omega (arith, h.covers)))
 
@@ -96,13 +96,13 @@ module _ (pages : List (List ℕ)) (numbers : List ℕ) (len : ℕ) (h : IsMappe
       let other : (j : ℕ) → j < length numbers → j ≢ i → page more (get_or numbers j 0) ≡ page pages (get_or numbers j 0) =
       λ j inside differs. get_or-set_other pages n (get_or numbers j 0) (put_at (page pages n) from xs) [] (λ e. differs (h.once i j (omega arith) (e ∙ is))) in
       let numbered : set numbers i n ≡ numbers = ap (set numbers i) is ∙ set-get_or numbers i 0 in
-      let place : start + from ≡ at = omega arith in
+      let location : start + from ≡ at = omega arith in
       ap (take len) (ap (joined more) (sym numbered)
       ∙ tiles_changed 4096 (page pages) (page more) numbers i n sizes size row other
       ∙ ap (put_at all start) (new ∙ ap (λ (w : List ℕ). put_at w from xs) (sym old))
       ∙ sym (put_at-put_at_inside all start (part all start 4096) from xs (omega (arith, length-part all start 4096, length-joined)) (omega (arith, length-joined)))
       ∙ ap (λ (w : List ℕ). put_at w (start + from) xs) (put_at-part all start 4096 (omega (arith, length-joined)))
-      ∙ ap (λ (k : ℕ). put_at all k xs) place)
+      ∙ ap (λ (k : ℕ). put_at all k xs) location)
       ∙ take-put_at_within all len at xs inside (omega (arith, h.covers, length-joined))
 
   -- no byte changes where a page of zeros comes for one that was not made

@@ -14,11 +14,11 @@ module _ {A : Type 0} where
   pub length-put_at : (m : List A) (a : ℕ) (xs : List A) → a + length xs ≤ length m → length (put_at m a xs) ≡ length m
   length-put_at m a xs inside = grind (arith, common_steps)
 
-  -- below the place of a put a memory is as it was
+  -- below the location of a put a memory is as it was
   pub take-put_at : (m : List A) (a k : ℕ) (xs : List A) → k ≤ a → a ≤ length m → take k (put_at m a xs) ≡ take k m
   take-put_at m a k xs below inside = grind (arith, common_steps)
 
-  -- from the place of a put on stand the bytes that were put, and what lay behind them
+  -- from the location of a put on stand the bytes that were put, and what lay behind them
   drop-put_at : (m : List A) (a : ℕ) (xs : List A) → a ≤ length m → drop a (put_at m a xs) ≡ xs ++ drop (a + length xs) m
   drop-put_at m a xs inside = grind (arith, common_steps)
 
@@ -51,9 +51,9 @@ module _ {A : Type 0} where
       ap (take n) (sym (drop-drop i a (put_at m a xs)) ∙ ap (drop i) (drop-put_at m a xs (omega arith)) ∙ drop-append-le i xs (drop (a + length xs) m) (omega arith))
       ∙ take-append-le n (drop i xs) (drop (a + length xs) m) (omega (arith, length-drop i xs))
 
-  -- the same, where the place is known by another name
+  -- the same, where the location is known by another name
   pub part-put_at_inside_at : (m : List A) (a : ℕ) (xs : List A) (i n b : ℕ) → b ≡ a + i → i + n ≤ length xs → a + length xs ≤ length m → part (put_at m a xs) b n ≡ part xs i n
-  part-put_at_inside_at m a xs i n b place within inside = rw place (part-put_at_inside m a xs i n within inside)
+  part-put_at_inside_at m a xs i n b location within inside = rw location (part-put_at_inside m a xs i n within inside)
 
   -- a part apart from what was put is as it was
   pub part-put_at_apart : (m : List A) (a : ℕ) (xs : List A) (b n : ℕ) → a + length xs ≤ length m → Apart a (length xs) b n → part (put_at m a xs) b n ≡ part m b n

@@ -21,7 +21,7 @@ module _ {A : Type 0} where
       ∙ ap (λ (w : List A). take a m ++ w) (take-append-drop n (drop a m))
       ∙ take-append-drop a m
 
-  -- of two puts of the same length at the same place the second stands
+  -- of two puts of the same length at the same location the second stands
   pub put_at-put_at_same : (m : List A) (a : ℕ) (xs ys : List A) → length ys ≡ length xs → a ≤ length m → put_at (put_at m a xs) a ys ≡ put_at m a ys
   put_at-put_at_same m a xs ys long inside = grind (arith, common_steps)
 
@@ -35,9 +35,9 @@ module _ {A : Type 0} where
       ∙ ap (λ (w : List A). w ++ drop end m) (append_assoc (take a m) xs ys)
       ∙ ap (λ (k : ℕ). take a m ++ (xs ++ ys) ++ drop k m) (omega (arith, length-append xs ys))
 
-  -- the same, where the second place is known by another name
+  -- the same, where the second location is known by another name
   pub put_at-put_at_next_at : (m : List A) (a : ℕ) (xs ys : List A) (b : ℕ) → b ≡ a + length xs → a ≤ length m → put_at (put_at m a xs) b ys ≡ put_at m a (xs ++ ys)
-  put_at-put_at_next_at m a xs ys b place inside = rw place (put_at-put_at_next m a xs ys inside)
+  put_at-put_at_next_at m a xs ys b location inside = rw location (put_at-put_at_next m a xs ys inside)
 
   -- a put into the front of joined bytes
   pub put_at-append_left : (p q : List A) (a : ℕ) (xs : List A) → a + length xs ≤ length p → put_at (p ++ q) a xs ≡ put_at p a xs ++ q
@@ -77,7 +77,7 @@ module _ {A : Type 0} where
       ∙ ap (λ (w : List A). part w a k) (put_at-put_at_inside m a (part m a k) i xs room (omega arith))
       ∙ part-put_at_same_length m a (put_at (part m a k) i xs) k (length-put_at (part m a k) i xs room ∙ long) (omega arith)
 
-  -- two puts change places, the one of which ends before the other begins
+  -- two puts change locations, the one of which ends before the other begins
   put_at-put_at_before : (m : List A) (a : ℕ) (xs : List A) (b : ℕ) (ys : List A) → a + length xs ≤ b → b ≤ length m → put_at (put_at m a xs) b ys ≡ put_at (put_at m b ys) a xs
   put_at-put_at_before m a xs b ys before inside =
       let front : length (take b m) ≡ b = omega (arith, length-take b m) in
@@ -91,7 +91,7 @@ module _ {A : Type 0} where
       ∙ ap (λ (w : List A). put_at w a xs) (sym (put_at-append_seam (take b m) (drop b m) b ys front))
       ∙ ap (λ (w : List A). put_at (put_at w b ys) a xs) whole
 
-  -- two puts apart from one another change places
+  -- two puts apart from one another change locations
   pub put_at-put_at_apart : (m : List A) (a : ℕ) (xs : List A) (b : ℕ) (ys : List A) → a + length xs ≤ length m → b + length ys ≤ length m → Apart a (length xs) b (length ys) → put_at (put_at m a xs) b ys ≡ put_at (put_at m b ys) a xs
   put_at-put_at_apart m a xs b ys first second (inl before) = put_at-put_at_before m a xs b ys before (omega arith)
   put_at-put_at_apart m a xs b ys first second (inr behind) = sym (put_at-put_at_before m b ys a xs behind (omega arith))

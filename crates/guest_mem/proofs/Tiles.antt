@@ -21,7 +21,7 @@ module _ {A : Type 0} (size : ℕ) (tile : ℕ → List A) where
       let rest = length-tiles numbers (All-tail (λ n. length (tile n) ≡ size) n numbers sizes) in
       omega (arith, length-append (tile n) (flat_map tile numbers), rest, first)
 
-  -- the tile at a place
+  -- the tile at a location
   pub tile_at : (numbers : List ℕ) (i : ℕ) → HaveSize numbers → i < length numbers → part (flat_map tile numbers) (i * size) size ≡ tile (get_or numbers i 0)
   tile_at [] i sizes inside = absurd (omega arith)
   tile_at (n ∷ numbers) zero sizes inside =
@@ -43,7 +43,7 @@ module _ {A : Type 0} (size : ℕ) (old new : ℕ → List A) where
       let rest : flat_map new numbers ≡ flat_map old numbers = tiles_same numbers (λ j inside. same (suc j) (omega arith)) in
       cc
 
-  -- another number at one place, and tiles that are the same at the numbers of the other places
+  -- another number at one location, and tiles that are the same at the numbers of the other locations
   pub tiles_changed : (numbers : List ℕ) (i n : ℕ) → HaveSize size old numbers → length (new n) ≡ size → i < length numbers
       → ((j : ℕ) → j < length numbers → j ≢ i → new (get_or numbers j 0) ≡ old (get_or numbers j 0))
       → flat_map new (set numbers i n) ≡ put_at (flat_map old numbers) (i * size) (new n)

@@ -12,7 +12,7 @@ use Rattle.guest_mem.specs.PageMap.{IsMapped, view_of, made_by}
 use Rattle.guest_mem.proofs.Makes.{absent-one}
 use Rattle.guest_mem.proofs.Mapped.{length-seen, part-seen, put-seen, put-holds, made-seen, made-holds, made_by-at, made_by-set, made_by-same}
 
--- a place that holds a number above 0 lies in the list
+-- a location that holds a number above 0 lies in the list
 numbered_inside : (numbers : List ℕ) (i : ℕ) → 0 < get_or numbers i 0 → i < length numbers
 numbered_inside numbers i some = elim (cases_lt i (length numbers)) [ inl inside ↦ inside | inr past ↦ absurd (omega (arith, get_or_past numbers i 0 past)) ]
 

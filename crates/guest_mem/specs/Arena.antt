@@ -1,10 +1,11 @@
--- An arena hands out pages of 4,096 bytes by number, from 1 on. Its page 0 holds zeros and is never written.
+-- An arena hands out pages of guest memory by number, from 1 on. Its page 0 holds zeros and is never written.
 use Rattle.std.specs.Prelude.{ℕ, ◌-◌, List, [], ◌∷◌, ◌++◌, replicate, get_or, slice_set}
+use Rattle.vt_types.specs.Limits.{GUEST_PAGE}
 use Rattle.guest_mem.specs.Memory.{put_at}
 
--- 4,096 zeros. Proofs open this by name alone, since the list would fill each goal.
+-- A page of zeros. Proofs open this by name alone, since the list would fill each goal.
 unfoldable pub zero_page : List ℕ
-zero_page = replicate 4096 0
+zero_page = replicate GUEST_PAGE 0
 
 -- the pages by number, and how many more there is room for
 pub record ArenaView : Type 0 where

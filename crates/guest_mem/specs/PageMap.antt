@@ -1,6 +1,7 @@
 -- How guest memory lies in an arena: for each of its pages, in order, the number that the arena knows it by.
-use Rattle.std.specs.Prelude.{◌≡◌, ℕ, ◌+◌, ◌*◌, ◌<◌, ◌≤◌, Bool, nat_lt, List, length, take, map, All, count_by, get_or}
+use Rattle.std.specs.Prelude.{◌≡◌, ℕ, ◌+◌, ◌*◌, ◌/◌, ◌<◌, ◌≤◌, Bool, nat_lt, List, length, take, map, All, count_by, get_or}
 use Rattle.std.specs.List.{flat_map}
+use Rattle.vt_types.specs.Limits.{GUEST_PAGE, LONGEST_MEMORY}
 use Rattle.guest_mem.specs.Memory.{IsByteList}
 use Rattle.guest_mem.specs.Arena.{ArenaView, page, zero_page}
 use Rattle.guest_mem.specs.Pages.{MemoryView}
@@ -22,13 +23,13 @@ view_of arena numbers len = record {
 }
 
 -- What holds of the pages of an arena, the numbers of a memory's pages and the memory's length: page 0 is zeros; pages
--- have 4,096 bytes each; each number is that of a page, and each page but page 0 is named once.
+-- have the bytes of one each; each number is that of a page, and each page but page 0 is named once.
 pub record IsMapped (pages : List (List ℕ)) (numbers : List ℕ) (len : ℕ) : Type 0 where
   pub zeros : page pages 0 ≡ zero_page
-  pub whole : All (λ p. length p ≡ 4096) pages
+  pub whole : All (λ p. length p ≡ GUEST_PAGE) pages
   pub octets : All IsByteList pages
   pub known : All (λ n. n < length pages) numbers
   pub once : (i j : ℕ) → 0 < get_or numbers i 0 → get_or numbers j 0 ≡ get_or numbers i 0 → j ≡ i
   pub counted : length pages ≡ 1 + count_by (nat_lt 0) numbers
-  pub covers : len ≤ length numbers * 4096
-  pub few : length numbers ≤ 65536
+  pub covers : len ≤ length numbers * GUEST_PAGE
+  pub few : length numbers ≤ LONGEST_MEMORY / GUEST_PAGE

@@ -3,22 +3,21 @@
 ghost use Rattle.std.specs.Prelude.{◌≡◌, ◌+◌, ◌-◌, ◌≤◌, ◌<◌, ◌^◌, ◌∷◌, [], length, max, replicate, vec_capacity, IsOk, IfOk, OnOk};
 ghost use Rattle.guest_mem.specs.Memory.{put_at};
 ghost use Rattle.guest_mem.specs.Arena.{zero_page, page, with_page, pages_with};
+ghost use Rattle.vt_types.specs.Limits.{GUEST_PAGE};
 
 use crate::Memory;
 use std::alloc::Global;
 use std::marker::Model;
-
-/// Bytes of a page.
-pub const PAGE_SIZE: usize = 4096;
+use vt_types::GUEST_PAGE;
 
 /// Bytes between two pages: one line of a processor's cache.
 const GAP: usize = 64;
 
-/// A page, and the gap behind it. Bytes at the same place of two pages that lie one after the other are so in different
+/// A page, and the gap behind it. Bytes at the same location of two pages that lie one after the other are so in different
 /// sets of a processor's cache.
 #[derive(Drop)]
 pub struct Frame {
-    bytes: [u8; PAGE_SIZE],
+    bytes: [u8; GUEST_PAGE],
     _gap: [u8; GAP],
 }
 
@@ -26,7 +25,7 @@ impl Frame {
     /// Copies `bytes` into the page, `from` bytes behind its start.
     #[inline(always)]
     fn copy(&mut self, from: usize, bytes: &[u8])
-        requires { from + length bytes.now ≤ 4096 }
+        requires { from + length bytes.now ≤ GUEST_PAGE }
         ensures { self.new.bytes ≡ put_at self.old.bytes from bytes.now }
     {
         self.bytes[from..from + bytes.len()].copy_from_slice(bytes);
@@ -38,7 +37,7 @@ impl Frame {
     /// once.
     #[inline(always)]
     fn put(&mut self, from: usize, bytes: &[u8])
-        requires { from + length bytes.now ≤ 4096 }
+        requires { from + length bytes.now ≤ GUEST_PAGE }
         ensures { self.new.bytes ≡ put_at self.old.bytes from bytes.now }
     {
         if bytes.len() == 16 {
@@ -51,14 +50,14 @@ impl Frame {
 
     /// Puts `count` zeros into the page, `from` bytes behind its start.
     fn clear(&mut self, from: usize, count: usize)
-        requires { from + count ≤ 4096 }
+        requires { from + count ≤ GUEST_PAGE }
         ensures { self.new.bytes ≡ put_at self.old.bytes from (replicate count 0) }
     {
         self.bytes[from..from + count].fill(0);
     }
 }
 
-/// Pages of 4,096 bytes, each under the number that it was given when it was made.
+/// Pages of guest memory, each under the number that it was given when it was made.
 ///
 /// Number 0 stands for a page of zeros from the start; nothing is written there. Pages to come are reserved as capacity,
 /// which takes no memory of the host until they are made.
@@ -85,7 +84,7 @@ fn zeros() -> Frame
     ensures { result.bytes ≡ zero_page }
 {
     Frame {
-        bytes: [0; PAGE_SIZE],
+        bytes: [0; GUEST_PAGE],
         _gap: [0; GAP],
     }
 }
@@ -146,7 +145,7 @@ impl PageArena {
 
     /// The bytes of a page.
     #[inline]
-    pub fn page(&self, number: u32) -> &[u8; PAGE_SIZE]
+    pub fn page(&self, number: u32) -> &[u8; GUEST_PAGE]
         requires { number < length self.now.pages }
         ensures { result.now ≡ page self.now.pages number }
     {
@@ -157,7 +156,7 @@ impl PageArena {
     #[inline(always)]
     pub fn put(&mut self, number: u32, from: usize, bytes: &[u8])
         requires number { number < length self.old.pages }
-        requires inside { from + length bytes.now ≤ 4096 }
+        requires inside { from + length bytes.now ≤ GUEST_PAGE }
         ensures { self.new ≡ record self.old { pages = pages_with self.old.pages number from bytes.now } }
     {
         self.frames[number as usize].put(from, bytes);
@@ -166,7 +165,7 @@ impl PageArena {
     /// Puts `count` zeros into a page, `from` bytes behind its start.
     pub fn clear(&mut self, number: u32, from: usize, count: usize)
         requires number { number < length self.old.pages }
-        requires inside { from + count ≤ 4096 }
+        requires inside { from + count ≤ GUEST_PAGE }
         ensures { self.new ≡ record self.old { pages = pages_with self.old.pages number from (replicate count 0) } }
     {
         self.frames[number as usize].clear(from, count);

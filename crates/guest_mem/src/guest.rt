@@ -1,21 +1,23 @@
 //! The memory of a guest.
 
-ghost use Rattle.std.specs.Prelude.{◌≡◌, ◌+◌, ◌*◌, ◌/◌, ◌≤◌, ◌<◌, ◌^◌, ◌↔◌, false, length, max, replicate, IsTrue, IsOk, IfOk, OnOk};
+ghost use Rattle.std.specs.Prelude.{◌≡◌, ◌+◌, ◌-◌, ◌*◌, ◌/◌, ◌≤◌, ◌<◌, ◌^◌, ◌↔◌, false, length, max, replicate, IsTrue, IsOk, IfOk, OnOk};
 ghost use Rattle.guest_mem.specs.Memory.{IsByteList};
 ghost use Rattle.guest_mem.specs.Pages.{pages_made};
 ghost use Rattle.vt_types.specs.Access.{pages_touched};
+ghost use Rattle.vt_types.specs.Limits.{GUEST_PAGE, LONGEST_MEMORY};
 
-use crate::arena::{PAGE_SIZE, PageArena};
+use crate::arena::PageArena;
 use crate::{Memory, Outside};
 use std::alloc::Global;
 use std::marker::Model;
+use vt_types::GUEST_PAGE;
 
 mod reads;
 mod writes;
 
 /// The memory of a guest, by addresses from 0. Its length never changes.
 ///
-/// It lies in pages of 4,096 bytes, the last of which may pass its end. A page is made when a write first touches it, out
+/// It lies in pages of `GUEST_PAGE` bytes, the last of which may pass its end. A page is made when a write first touches it, out
 /// of those that `reserve` set aside; one that was not made reads as zeros. So a memory takes as much of the host as was
 /// written, and 4 bytes for each of its pages.
 ///
@@ -48,12 +50,12 @@ fn unmade(alloc: Global, count: usize) -> Result<Vec<u32>, Memory>
 }
 
 impl GuestMem {
-    /// A memory of `len` bytes, at most 2^28. Each of them is zero, and no page is made or set aside.
+    /// A memory of `len` bytes, at most `LONGEST_MEMORY`. Each of them is zero, and no page is made or set aside.
     pub fn new(alloc: Global, len: u64) -> Result<GuestMem, Memory>
-        requires { len ≤ 2 ^ 28 }
-        ensures { IfOk result (λ m. m ≡ record { bytes = replicate len 0; made = replicate ((len + 4095) / 4096) false; spare = 0 }) }
+        requires { len ≤ LONGEST_MEMORY }
+        ensures { IfOk result (λ m. m ≡ record { bytes = replicate len 0; made = replicate ((len + (GUEST_PAGE - 1)) / GUEST_PAGE) false; spare = 0 }) }
     {
-        let count = (len as usize + (PAGE_SIZE - 1)) / PAGE_SIZE;
+        let count = (len as usize + (GUEST_PAGE - 1)) / GUEST_PAGE;
         Ok(GuestMem {
             arena: PageArena::new(alloc)?,
             page_numbers: unmade(alloc, count)?,
@@ -65,7 +67,7 @@ impl GuestMem {
     #[inline]
     pub fn len(&self) -> u64
         ensures value { result ≡ length self.now.bytes }
-        ensures pages { result ≤ length self.now.made * 4096 }
+        ensures pages { result ≤ length self.now.made * GUEST_PAGE }
         ensures bytes { IsByteList self.now.bytes }
     {
         self.len
@@ -114,7 +116,7 @@ impl GuestMem {
     fn start_of(&self, addr: u64, count: usize) -> Result<usize, Outside>
         ensures cause { IsOk result ↔ (addr + count ≤ length self.now.bytes) }
         ensures value { IfOk result (λ at. at ≡ addr) }
-        ensures pages { IfOk result (λ at. at / 4096 + pages_touched at count ≤ length self.now.made) }
+        ensures pages { IfOk result (λ at. at / GUEST_PAGE + pages_touched at count ≤ length self.now.made) }
         ensures fits { IfOk result (λ at. at + count < 2 ^ 64) }
     {
         let len = self.len();

@@ -1,1 +1,2 @@
 pub mod MemoryTable
+pub mod Puts

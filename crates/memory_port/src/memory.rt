@@ -3,7 +3,8 @@
 ghost use Rattle.std.specs.Prelude.{◌≡◌, ◌+◌, ◌≤◌, nat_le, [], OnOk, OnErr, false, length, if◌then◌else◌};
 ghost use Rattle.guest_mem.specs.Memory.{part};
 ghost use Rattle.vt_types.specs.declared.access.Answer.TheVariants.{Done, Got, Outside as PastTheEnd};
-ghost use Rattle.vt_types.specs.Access.{access_value, access_cost, IsWithinLimits, LONGEST_ACCESS};
+ghost use Rattle.vt_types.specs.Access.{access_value, access_cost, IsWithinLimits};
+ghost use Rattle.vt_types.specs.Limits.{LONGEST_BUFFER};
 ghost use Rattle.vt_types.specs.Program.{got, is_got};
 ghost use Rattle.memory_port.specs.MemoryTable.{MemoryStep};
 
@@ -25,7 +26,7 @@ fn done(put: Result<(), Outside>) -> Answer
 /// Fills a room with bytes of memory. The room stays as it is where they pass its end.
 #[inline(always)]
 fn get(memory: &GuestMem, addr: u64, count: u16, room: &mut Room) -> Answer
-    requires { count ≤ LONGEST_ACCESS }
+    requires { count ≤ LONGEST_BUFFER }
     ensures answer { result ≡ (if nat_le (addr + count) (length memory.now.bytes) then Got else PastTheEnd) }
     ensures bytes { got result room.new.items ≡ (if nat_le (addr + count) (length memory.now.bytes) then part memory.now.bytes addr count else []) }
     ensures leaves { is_got result ≡ false → room.new.items ≡ room.old.items }

@@ -15,9 +15,9 @@ pages-le-two addr zero few = omega arith
 pages-le-two addr (suc n) few = let some : eqb (suc n) 0 ≡ false = ne_eqb (suc n) 0 (λ e. absurd (omega arith)) in rw some (omega arith)
 
 -- the put of a buffer's data
-pub cost_of_data : (place : ℕ) (bytes : List ℕ) → length bytes ≤ 8192 → cost_of_all (data_puts place bytes) ≤ 3
-cost_of_data place [] few = omega arith
-cost_of_data place (byte ∷ bytes) few = omega (arith, pages-le place (length (byte ∷ bytes)) few)
+pub cost_of_data : (location : ℕ) (bytes : List ℕ) → length bytes ≤ 8192 → cost_of_all (data_puts location bytes) ≤ 3
+cost_of_data location [] few = omega arith
+cost_of_data location (byte ∷ bytes) few = omega (arith, pages-le location (length (byte ∷ bytes)) few)
 
 -- two short puts
 pub cost_of_two : (a b : ℕ) (xs ys : List ℕ) → length xs ≤ 4096 → length ys ≤ 4096 → cost_of_all (Put a xs ∷ Put b ys ∷ []) ≤ 4

@@ -17,7 +17,7 @@ module _ {P : Type 0} (step : P → AccessValue → Answer → List ℕ → List
   does_then first second p mid p2 done more =
       rw do_all-append (gives_do_all step marking {Y = Unit {0}} first (do_all second (End tt)) p mid p2 tt done more)
 
-  -- a put, with its place and bytes under other names
+  -- a put, with its location and bytes under other names
   pub does_put_at : (a b : ℕ) (xs ys : List ℕ) (p p2 : P) → a ≡ b → xs ≡ ys → Does step marking (Put a xs ∷ []) p p2 → Does step marking (Put b ys ∷ []) p p2
   does_put_at a b xs ys p p2 e f done =
       subst (λ (zs : List ℕ). Does step marking (Put b zs ∷ []) p p2) f (subst (λ (n : ℕ). Does step marking (Put n xs ∷ []) p p2) e done)

@@ -4,8 +4,8 @@ use Rattle.vt_types.specs.Program.{Program, Do, Mark, End}
 
 -- the put of bytes, where there are any
 abbrev pub data_puts : ℕ → List ℕ → List AccessValue
-data_puts place [] = []
-data_puts place (byte ∷ bytes) = Put place (byte ∷ bytes) ∷ []
+data_puts location [] = []
+data_puts location (byte ∷ bytes) = Put location (byte ∷ bytes) ∷ []
 
 -- bytes that were asked for: zeros where another number of them came
 abbrev pub bytes_or_zeros : ℕ → List ℕ → List ℕ

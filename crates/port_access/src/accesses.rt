@@ -5,6 +5,7 @@
 ghost use Rattle.std.specs.Prelude.{◌≡◌, ◌+◌, ◌≤◌, [], ◌∷◌, length, replicate};
 ghost use Rattle.byteorder.specs.Endian.{little_bytes};
 ghost use Rattle.vt_types.specs.Access.{Put, pages_touched};
+ghost use Rattle.vt_types.specs.Limits.{LONGEST_BUFFER};
 ghost use Rattle.vt_types.specs.Program.{Gives, Does, cost_of_all};
 ghost use Rattle.port_access.specs.Accesses.{bytes_program, data_puts, get_bytes, mark_alone};
 
@@ -14,11 +15,11 @@ use vt_types::{Access, Answer, Port, Room};
 #[cfg(test)]
 mod tests;
 
-/// Puts 1 to 8,192 bytes; nobody looks at the answer.
+/// Puts 1 to `LONGEST_BUFFER` bytes; nobody looks at the answer.
 #[inline(always)]
 pub fn put<P: Port>(port: &mut P, addr: u64, bytes: &[u8], room: &mut Room)
     requires some { 1 ≤ length bytes.now }
-    requires few { length bytes.now ≤ 8192 }
+    requires few { length bytes.now ≤ LONGEST_BUFFER }
     requires credit { pages_touched addr (length bytes.now) ≤ P.credit port.old }
     ensures does { Does P.step P.marking (Put addr bytes.now ∷ []) port.old port.new }
     ensures credit { P.credit port.old ≤ P.credit port.new + pages_touched addr (length bytes.now) }
@@ -26,9 +27,9 @@ pub fn put<P: Port>(port: &mut P, addr: u64, bytes: &[u8], room: &mut Room)
     let _answer = port.access(&Access::Put { addr, bytes }, room);
 }
 
-/// Puts at most 8,192 bytes. No access is made where there are none.
+/// Puts at most `LONGEST_BUFFER` bytes. No access is made where there are none.
 pub fn put_data<P: Port>(port: &mut P, addr: u64, bytes: &[u8], room: &mut Room)
-    requires few { length bytes.now ≤ 8192 }
+    requires few { length bytes.now ≤ LONGEST_BUFFER }
     requires credit { cost_of_all (data_puts addr bytes.now) ≤ P.credit port.old }
     ensures does { Does P.step P.marking (data_puts addr bytes.now) port.old port.new }
     ensures credit { P.credit port.old ≤ P.credit port.new + cost_of_all (data_puts addr bytes.now) }
@@ -52,7 +53,7 @@ pub fn put_u16<P: Port>(port: &mut P, addr: u64, number: u16, room: &mut Room)
 /// Zeros in the room.
 #[cold]
 fn fill_zeros(room: &mut Room, count: u16)
-    requires { count ≤ 8192 }
+    requires { count ≤ LONGEST_BUFFER }
     ensures { room.new.items ≡ replicate count 0 }
 {
     room.clear();
@@ -61,11 +62,11 @@ fn fill_zeros(room: &mut Room, count: u16)
     }
 }
 
-/// Gets 1 to 8,192 bytes into the room: zeros where the answer has another form, or another number of bytes comes.
+/// Gets 1 to `LONGEST_BUFFER` bytes into the room: zeros where the answer has another form, or another number of bytes comes.
 #[inline(always)]
 pub fn get<P: Port>(port: &mut P, addr: u64, count: u16, room: &mut Room)
     requires some { 1 ≤ count }
-    requires few { count ≤ 8192 }
+    requires few { count ≤ LONGEST_BUFFER }
     ensures gives { Gives P.step P.marking (get_bytes addr count) port.old room.new.items port.new }
     ensures long { length room.new.items ≡ count }
     ensures credit { P.credit port.old ≤ P.credit port.new }
@@ -77,10 +78,10 @@ pub fn get<P: Port>(port: &mut P, addr: u64, count: u16, room: &mut Room)
     }
 }
 
-/// Gets the `len` bytes that a device wrote, at most 8,192, into the room. No access is made where it wrote none.
+/// Gets the `len` bytes that a device wrote, at most `LONGEST_BUFFER`, into the room. No access is made where it wrote none.
 #[inline(always)]
 pub fn get_written<P: Port>(port: &mut P, addr: u64, len: u16, room: &mut Room)
-    requires { len ≤ 8192 }
+    requires { len ≤ LONGEST_BUFFER }
     ensures gives { Gives P.step P.marking (bytes_program addr len) port.old room.new.items port.new }
     ensures credit { P.credit port.old ≤ P.credit port.new }
 {

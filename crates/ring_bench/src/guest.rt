@@ -3,7 +3,7 @@
 ghost use Rattle.std.specs.Prelude.{◌≡◌, ◌+◌, ◌*◌, ◌%◌, ◌<◌, ◌≤◌, ◌^◌, false, IfOk, IsTrue};
 ghost use Rattle.vt_types.specs.Operation.{posted_buffer};
 ghost use Rattle.vq_common.specs.Buffer.{IsPostable};
-ghost use Rattle.vq_common.specs.Queue.{IsPlaced, is_ring_size, GREATEST_COST_OF_POST};
+ghost use Rattle.vq_common.specs.Queue.{IsInBlock, is_ring_size, GREATEST_COST_OF_POST};
 ghost use Rattle.ring_bench.specs.Ready.{IsReady};
 
 use crate::counts::Counts;
@@ -49,7 +49,7 @@ impl<D: DriverEnd + Drop> Guest<D> {
     /// A ring in the queue block at `base`, on which nothing was posted yet.
     pub fn new(alloc: Global, cfg: &RingCfg, base: u64) -> Result<Guest<D>, Memory>
         requires size { IsTrue (is_ring_size cfg.now.size) }
-        requires placed { IsPlaced cfg.now base }
+        requires in_block { IsInBlock cfg.now base }
         requires unasked { cfg.now.event_idx ≡ false }
         ensures { IfOk result (λ guest. IsReady (D.queue guest.driver)) }
     {

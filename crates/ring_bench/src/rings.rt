@@ -1,7 +1,7 @@
 //! Both ends of a ring over one guest memory.
 
 ghost use Rattle.std.specs.Prelude.{◌≡◌, ◌≤◌, ◌^◌, false, IfOk, IsTrue, length};
-ghost use Rattle.vq_common.specs.Queue.{IsPlaced, is_ring_size};
+ghost use Rattle.vq_common.specs.Queue.{IsInBlock, is_ring_size};
 ghost use Rattle.ring_bench.specs.Ready.{IsReady};
 
 use crate::counts::Counts;
@@ -11,8 +11,8 @@ use crate::task::Task;
 use guest_mem::GuestMem;
 use memory_port::MemoryPort;
 use std::alloc::Global;
-use vq_common::map::{DEVICE_AREA, DRIVER_AREA};
 use vq_common::{DeviceEnd, DriverEnd, RingCfg};
+use vt_layout::queue_block::{DEVICE_AREA, DRIVER_AREA};
 use vt_types::Memory;
 
 /// The bytes of guest memory.
@@ -28,7 +28,7 @@ const PAGES_OF_BUFFER: u32 = 43;
 fn ring(size: u16) -> RingCfg
     ensures size { result.size ≡ size }
     ensures unasked { result.event_idx ≡ false }
-    ensures placed { IsPlaced result BASE }
+    ensures in_block { IsInBlock result BASE }
 {
     RingCfg {
         desc: BASE,

@@ -58,11 +58,11 @@ descriptor_in-descriptor_bytes d f =
     let g : little_number 2 (drop 14 (descriptor_bytes d)) ≡ d.next = field 2 14 d.next (little_bytes 8 d.addr ++ (little_bytes 4 d.len ++ little_bytes 2 d.flags)) [] refl f.next in
     rw (a, b, e, g) refl
 
--- the bytes of any descriptor, put at a place
+-- the bytes of any descriptor, put at a location
 put_bytes : (mem : List ℕ) (table n : ℕ) (xs : List ℕ) → length xs ≡ 16 → table + 16 * n + 16 ≤ length mem → descriptor_at (put_at mem (table + 16 * n) xs) table n ≡ descriptor_in xs
 put_bytes mem table n xs long inside = ap descriptor_in (part-put_at_same_length mem (table + 16 * n) xs 16 long (omega arith))
 
--- a descriptor that was put at a place is read there
+-- a descriptor that was put at a location is read there
 pub descriptor_at-put : (mem : List ℕ) (table n : ℕ) (d : Descriptor) → Fits d → table + 16 * n + 16 ≤ length mem
     → descriptor_at (put_at mem (table + 16 * n) (descriptor_bytes d)) table n ≡ d
 descriptor_at-put mem table n d fits inside =
@@ -91,7 +91,7 @@ packed_descriptor_in-packed_descriptor_bytes d f =
     ap (λ (e : Descriptor). record { addr = e.addr; len = e.len; id = e.flags; flags = e.next })
     (descriptor_in-descriptor_bytes as_split (record { addr = f.addr; len = f.len; flags = f.id; next = f.flags }))
 
--- a packed descriptor that was put at a place is read there
+-- a packed descriptor that was put at a location is read there
 pub packed_descriptor_at-put : (mem : List ℕ) (table n : ℕ) (d : PackedDescriptor) → FitsPacked d → table + 16 * n + 16 ≤ length mem
     → packed_descriptor_at (put_at mem (table + 16 * n) (packed_descriptor_bytes d)) table n ≡ d
 packed_descriptor_at-put mem table n d fits inside =

@@ -10,10 +10,10 @@ use Rattle.vq_common.specs.PackedDescriptor.{packed_descriptor_in, packed_piece_
 use Rattle.vq_common.specs.Table.{packed_table, pieces_if_direct, split_table, table_pieces, is_table}
 use Rattle.vq_common.proofs.DescriptorLaws.{descriptor_at-put_apart}
 
--- a place of a table that lies apart lies apart
-pub Apart-place : (a n table count place : ℕ) → place < count → Apart a n table (16 * count) → Apart a n (table + 16 * place) 16
-Apart-place a n table count place within (inl before) = inl (omega arith)
-Apart-place a n table count place within (inr behind) = inr (omega arith)
+-- a location of a table that lies apart lies apart
+pub Apart-location : (a n table count location : ℕ) → location < count → Apart a n table (16 * count) → Apart a n (table + 16 * location) 16
+Apart-location a n table count location within (inl before) = inl (omega arith)
+Apart-location a n table count location within (inr behind) = inr (omega arith)
 
 -- so does any part of it
 pub Apart-part : (a n b k c j : ℕ) → b ≤ c → c + j ≤ b + k → Apart a n b k → Apart a n c j
@@ -35,7 +35,7 @@ chain_from-put_apart (suc left) mem a xs table count n inside apart =
     if_same (nat_lt n count) _ _ None (λ test.
     let within : n < count = grind (arith, nat_tests) in
     ap (λ d. and_following d (λ next. chain_from left (put_at mem a xs) table count next))
-    (descriptor_at-put_apart mem a xs table n inside (Apart-place a (length xs) table count n within apart))
+    (descriptor_at-put_apart mem a xs table n inside (Apart-location a (length xs) table count n within apart))
     ∙ following_same (descriptor_at mem table n) (λ next. chain_from left (put_at mem a xs) table count next) (λ next. chain_from left mem table count next)
     (λ next. chain_from-put_apart left mem a xs table count next inside apart))
 

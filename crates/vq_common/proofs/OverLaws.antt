@@ -83,9 +83,9 @@ piece_over a b p bytes at long inside same =
       | inl before ↦ apart (inr (omega arith))
       | inr low ↦ elim (cases_lt at (p.addr + min p.len (length bytes))) [
         | inl high ↦
-            let place : at ≡ p.addr + (at - p.addr) = omega arith in
-            part-put_at_inside_at a p.addr (take p.len bytes) (at - p.addr) 1 at place (omega arith) (omega arith)
-            ∙ sym (part-put_at_inside_at b p.addr (take p.len bytes) (at - p.addr) 1 at place (omega arith) (omega arith))
+            let location : at ≡ p.addr + (at - p.addr) = omega arith in
+            part-put_at_inside_at a p.addr (take p.len bytes) (at - p.addr) 1 at location (omega arith) (omega arith)
+            ∙ sym (part-put_at_inside_at b p.addr (take p.len bytes) (at - p.addr) 1 at location (omega arith) (omega arith))
         | inr behind ↦ apart (inl behind)
       ]
     ]

@@ -85,10 +85,10 @@ absent_none made f k inside =
 -- the pages in three rows, of which the middle one is made
 absent_within : (made : List Bool) (g i f k n : ℕ) → f ≡ g + i → f + k ≤ length made
     → absent (put_at made f (replicate k true)) g (i + (k + n)) + absent made f k ≤ absent made g (i + (k + n))
-absent_within made g i f k n place inside =
+absent_within made g i f k n location inside =
     let new : List Bool = put_at made f (replicate k true) in
     let cut : (m : List Bool) → absent m g (i + (k + n)) ≡ absent m g i + (absent m f k + absent m (f + k) n) =
-    λ m. absent-split m g i (k + n) ∙ ap (λ (j : ℕ). absent m g i + absent m j (k + n)) (sym place) ∙ ap (λ (j : ℕ). absent m g i + j) (absent-split m f k n) in
+    λ m. absent-split m g i (k + n) ∙ ap (λ (j : ℕ). absent m g i + absent m j (k + n)) (sym location) ∙ ap (λ (j : ℕ). absent m g i + j) (absent-split m f k n) in
     omega (arith, cut made, cut new, absent_none made f k (omega arith), absent_less made f k g i inside, absent_less made f k (f + k) n inside)
 
 -- the pages that some bytes touch
@@ -122,8 +122,8 @@ missing_within made p len a (suc n) low high inside =
     let r : ℕ = g + pages_touched p len - (f + k) in
     let rows : pages_touched p len ≡ (f - g) + (k + r) = touched_within p len a (suc n) (omega arith) low high in
     let all : (m : List Bool) → absent m g (pages_touched p len) ≡ absent m g ((f - g) + (k + r)) = λ m. ap (absent m g) rows in
-    let place : f ≡ g + (f - g) = omega arith in
-    omega (arith, all made, all (with_pages made a (suc n)), absent_within made g (f - g) f k r place inside)
+    let location : f ≡ g + (f - g) = omega arith in
+    omega (arith, all made, all (with_pages made a (suc n)), absent_within made g (f - g) f k r location inside)
 
 -- a range inside another lacks no more pages
 missing_part : (made : List Bool) (p len a n : ℕ) → p ≤ a → a + n ≤ p + len → missing made a n ≤ missing made p len
@@ -135,9 +135,9 @@ missing_part made p len a (suc n) low high =
     let r : ℕ = g + pages_touched p len - (f + k) in
     let rows : pages_touched p len ≡ (f - g) + (k + r) = touched_within p len a (suc n) (omega arith) low high in
     let all : absent made g (pages_touched p len) ≡ absent made g ((f - g) + (k + r)) = ap (absent made g) rows in
-    let place : g + (f - g) ≡ f = omega arith in
+    let location : g + (f - g) ≡ f = omega arith in
     let two : absent made g ((f - g) + (k + r)) ≡ absent made g (f - g) + absent made f (k + r) =
-    absent-split made g (f - g) (k + r) ∙ ap (λ (j : ℕ). absent made g (f - g) + absent made j (k + r)) place in
+    absent-split made g (f - g) (k + r) ∙ ap (λ (j : ℕ). absent made g (f - g) + absent made j (k + r)) location in
     omega (arith, all, two, absent-split made f k r)
 
 -- so no pieces are short of more pages

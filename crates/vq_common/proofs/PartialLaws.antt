@@ -1,4 +1,4 @@
--- What is read and written from a place on.
+-- What is read and written from a location on.
 use Rattle.std.proofs.Common.{◌≡◌, ℕ, zero, suc, ◌+◌, ◌-◌, ◌*◌, ◌/◌, ◌≤◌, ◌<◌, List, [], ◌∷◌, ◌++◌, length, take, drop, min, Bool, true, false, refl, sym, ◌∙◌, ap, arith, inl, inr, get_or, IsTrue, subst, add-one, append_assoc, append-nil, length-append, length-take, length-drop}
 use Rattle.std.specs.Prelude.{if◌then◌else◌}
 use Rattle.std.specs.List.{All, list_all}
@@ -20,7 +20,7 @@ use Rattle.vq_common.proofs.PagesLaws.{pages_inside, short_write, short_enough}
 use Rattle.vq_common.proofs.PieceLaws.{length-readable}
 use Rattle.vq_common.proofs.RuleFacts.{IsInside, IsPiece, pieces_facts, pieces_test}
 
--- the front and the rest of joined bytes, from any place on
+-- the front and the rest of joined bytes, from any location on
 pub take_joined : (n : ℕ) (xs ys : List ℕ) → take n (xs ++ ys) ≡ take n xs ++ take (n - length xs) ys
 take_joined n [] ys = let same : n - 0 ≡ n = omega arith in rw (take-nil, same) refl
 take_joined zero (x ∷ xs) ys = let none : 0 - length (x ∷ xs) ≡ 0 = omega arith in rw none refl
@@ -67,7 +67,7 @@ scatter_from-zero mem (p ∷ ps) bytes =
       | false ↦ scatter_from-zero mem ps bytes
     ]
 
--- writing over one piece from a place on leaves the length
+-- writing over one piece from a location on leaves the length
 pub length-write_from : (mem : List ℕ) (p : Piece) (k : ℕ) (bytes : List ℕ) → p.addr + p.len ≤ length mem → length (put_at mem (p.addr + k) (take (p.len - k) bytes)) ≡ length mem
 length-write_from mem p k bytes inside =
     elim (cases_lt k p.len) [
@@ -88,10 +88,10 @@ after_piece k mem p ps xs ys rest inside behind =
     let mem1 : List ℕ = put_at mem (p.addr + k) (take (p.len - k) xs) in
     let xs1 : List ℕ = drop (p.len - k) xs in
     let none : p.len - (k + length xs) ≡ 0 = omega arith in
-    let place : k + length xs - p.len ≡ k - p.len + length xs1 = omega (arith, length-drop (p.len - k) xs) in
+    let location : k + length xs - p.len ≡ k - p.len + length xs1 = omega (arith, length-drop (p.len - k) xs) in
     let front : take (p.len - k) (xs ++ ys) ≡ take (p.len - k) xs = take-append-le (p.len - k) xs ys (omega arith) in
     let back : drop (p.len - k) (xs ++ ys) ≡ xs1 ++ ys = drop-append-le (p.len - k) xs ys (omega arith) in
-    rw (none, put_at-nil, place, front, back) (rest mem1 xs1 (length-write_from mem p k xs inside))
+    rw (none, put_at-nil, location, front, back) (rest mem1 xs1 (length-write_from mem p k xs inside))
 
 within_piece : (k : ℕ) (mem : List ℕ) (p : Piece) (ps : List Piece) (xs ys : List ℕ)
     → p.addr + p.len ≤ length mem
@@ -122,7 +122,7 @@ append_by_test : (w : Bool) (k : ℕ) (mem : List ℕ) (p : Piece) (ps : List Pi
 append_by_test true k mem p ps xs ys here passed = here
 append_by_test false k mem p ps xs ys here passed = passed
 
--- bytes written from a place on, and then others behind them, are both written from that place on
+-- bytes written from a location on, and then others behind them, are both written from that location on
 pub scatter_from-append : (k : ℕ) (mem : List ℕ) (ps : List Piece) (xs ys : List ℕ) → All (IsInside (length mem)) ps
     → scatter_from (k + length xs) (scatter_from k mem ps xs) ps ys ≡ scatter_from k mem ps (xs ++ ys)
 scatter_from-append k mem [] xs ys inside = refl
@@ -179,17 +179,17 @@ part_of_piece mem addr len left n inside =
           ]
     ]
 
--- the readable bytes from a place on: those of a piece, and then those of the others
+-- the readable bytes from a location on: those of a piece, and then those of the others
 readable_step : (mem : List ℕ) (p : Piece) (ps : List Piece) (left n : ℕ) → p.write ≡ false → p.addr + p.len ≤ length mem
     → part (readable mem (p ∷ ps)) left n
     ≡ part mem (p.addr + min left p.len) (min (p.len - min left p.len) n) ++ part (readable mem ps) (left - min left p.len) (n - min (p.len - min left p.len) n)
 readable_step mem p ps left n is inside =
     let long : length (part mem p.addr p.len) ≡ p.len = length-part mem p.addr p.len inside in
-    let place : left - p.len ≡ left - min left p.len = omega arith in
+    let location : left - p.len ≡ left - min left p.len = omega arith in
     let count : n - (p.len - left) ≡ n - min (p.len - min left p.len) n = omega arith in
     rw is
     (part_joined (part mem p.addr p.len) (readable mem ps) left n
-    ∙ rw (part_of_piece mem p.addr p.len left n inside, long, place, count) refl)
+    ∙ rw (part_of_piece mem p.addr p.len left n inside, long, location, count) refl)
 
 -- a slice that is filled is put
 filled_slice : (xs : List ℕ) (at n : ℕ) (new : List ℕ) → n ≡ length new → put_mid at n xs new ≡ put_at xs at new
@@ -297,7 +297,7 @@ writes_past_piece start ps d offset bytes mem left done i here read so =
     let skip : scatter_from left mem.bytes (drop i ps) (drop done bytes) ≡ scatter_from left mem.bytes (drop (i + 1) ps) (drop done bytes) = rw (items_from ps i d here, read) refl in
     record { rest = sym skip ∙ so.rest; valid = (valid_piece (length mem.bytes) ps i d here so.valid).1; most = so.most; size = so.size; pages = so.pages }
 
--- the first bytes are written over a piece from a place on
+-- the first bytes are written over a piece from a location on
 scatter_from_step : (left : ℕ) (mem : List ℕ) (p : Piece) (ps : List Piece) (bytes : List ℕ) (skipped count : ℕ) → p.write ≡ true → skipped ≡ min left p.len → count ≡ min (p.len - skipped) (length bytes)
     → scatter_from left mem (p ∷ ps) bytes ≡ scatter_from (left - skipped) (put_at mem (p.addr + skipped) (take (p.len - skipped) bytes)) ps (drop count bytes)
 scatter_from_step left mem p ps bytes skipped count write skip many =

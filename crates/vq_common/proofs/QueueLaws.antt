@@ -56,7 +56,7 @@ ring_size_divides n few test =
     let (size, whole) = and_parts (is_ring_size n) (divides n) (sym same ∙ test) in
     whole
 
--- a ring has 1 to 1,024 places, and its size divides 2 ^ 16
+-- a ring has 1 to 1,024 locations, and its size divides 2 ^ 16
 pub record IsRingSize (n : ℕ) : Type 0 where
   pub some : 1 ≤ n
   pub few : n ≤ 1024
@@ -80,7 +80,7 @@ ring_size_is_power n few test =
     let (size, whole) = and_parts (is_ring_size n) (is_power n) (sym same ∙ test) in
     whole
 
--- the low bits of an index are its place in a ring
+-- the low bits of an index are its location in a ring
 pub masked : (index size : ℕ) → IsTrue (is_ring_size size) → bit_and index (size - 1) ≡ index % size
 masked index size test =
     let k : ℕ = bit_length 128 (size - 1) in

@@ -13,23 +13,23 @@ use Rattle.vq_common.specs.PackedDescriptor.{packed_descriptor_in, packed_piece_
 use Rattle.vq_common.specs.Table.{pieces_if_direct, pieces_with, packed_table, split_table, table_pieces, is_table}
 
 -- one step of a chain
-pub chain_step : (n i place table count : ℕ) (mem : List ℕ) → i < n → place < count
-    → chain_from (n - i) mem table count place ≡ and_following (descriptor_at mem table place) (λ next. chain_from (n - (i + 1)) mem table count next)
-chain_step n i place table count mem lt inside =
+pub chain_step : (n i location table count : ℕ) (mem : List ℕ) → i < n → location < count
+    → chain_from (n - i) mem table count location ≡ and_following (descriptor_at mem table location) (λ next. chain_from (n - (i + 1)) mem table count next)
+chain_step n i location table count mem lt inside =
     let e : n - i ≡ suc (n - (i + 1)) = omega arith in
-    let t : nat_lt place count ≡ true = grind (arith, nat_tests) in
+    let t : nat_lt location count ≡ true = grind (arith, nat_tests) in
     rw (e, t) refl
 
--- no chain goes through a place that the table lacks
-pub chain_from_past : (n : ℕ) (mem : List ℕ) (table count place : ℕ) → count ≤ place → chain_from n mem table count place ≡ None
-chain_from_past zero mem table count place past = refl
-chain_from_past (suc n) mem table count place past =
-    let t : nat_lt place count ≡ false = grind (arith, nat_tests) in
+-- no chain goes through a location that the table lacks
+pub chain_from_past : (n : ℕ) (mem : List ℕ) (table count location : ℕ) → count ≤ location → chain_from n mem table count location ≡ None
+chain_from_past zero mem table count location past = refl
+chain_from_past (suc n) mem table count location past =
+    let t : nat_lt location count ≡ false = grind (arith, nat_tests) in
     rw t refl
 
 -- no chain has no descriptor
-pub chain_from_none : (n i : ℕ) (mem : List ℕ) (table count place : ℕ) → n ≤ i → chain_from (n - i) mem table count place ≡ None
-chain_from_none n i mem table count place none =
+pub chain_from_none : (n i : ℕ) (mem : List ℕ) (table count location : ℕ) → n ≤ i → chain_from (n - i) mem table count location ≡ None
+chain_from_none n i mem table count location none =
     let e : n - i ≡ zero = omega arith in
     rw e refl
 
@@ -105,31 +105,31 @@ following_indirect d follow named =
     [ true ↦ indirect_first d (follow d.next) named | false ↦ indirect_first d (Some []) named ]
 
 -- a walk that comes to a descriptor that names a table gives nothing
-pub table_indirect : (found : List Piece) (n i place table count : ℕ) (mem : List ℕ) → i < n → place < count → is_indirect (descriptor_at mem table place).flags ≡ true
-    → pieces_with found (pieces_if_direct (chain_from (n - i) mem table count place)) ≡ None
-table_indirect found n i place table count mem lt inside named =
-    ap (λ ds. pieces_with found (pieces_if_direct ds)) (chain_step n i place table count mem lt inside)
-    ∙ ap (pieces_with found) (following_indirect (descriptor_at mem table place) (λ next. chain_from (n - (i + 1)) mem table count next) named)
+pub table_indirect : (found : List Piece) (n i location table count : ℕ) (mem : List ℕ) → i < n → location < count → is_indirect (descriptor_at mem table location).flags ≡ true
+    → pieces_with found (pieces_if_direct (chain_from (n - i) mem table count location)) ≡ None
+table_indirect found n i location table count mem lt inside named =
+    ap (λ ds. pieces_with found (pieces_if_direct ds)) (chain_step n i location table count mem lt inside)
+    ∙ ap (pieces_with found) (following_indirect (descriptor_at mem table location) (λ next. chain_from (n - (i + 1)) mem table count next) named)
 
 -- a walk ends where a descriptor has no next
-pub table_last : (found : List Piece) (n i place table count : ℕ) (mem : List ℕ) → i < n → place < count → is_indirect (descriptor_at mem table place).flags ≡ false
-    → has_next (descriptor_at mem table place).flags ≡ false → length found < 8
-    → pieces_with found (pieces_if_direct (chain_from (n - i) mem table count place)) ≡ Some (found ++ piece_of (descriptor_at mem table place) ∷ [])
-table_last found n i place table count mem lt inside direct last few =
-    let d : Descriptor = descriptor_at mem table place in
-    ap (λ ds. pieces_with found (pieces_if_direct ds)) (chain_step n i place table count mem lt inside ∙ following_last d (λ next. chain_from (n - (i + 1)) mem table count next) last)
+pub table_last : (found : List Piece) (n i location table count : ℕ) (mem : List ℕ) → i < n → location < count → is_indirect (descriptor_at mem table location).flags ≡ false
+    → has_next (descriptor_at mem table location).flags ≡ false → length found < 8
+    → pieces_with found (pieces_if_direct (chain_from (n - i) mem table count location)) ≡ Some (found ++ piece_of (descriptor_at mem table location) ∷ [])
+table_last found n i location table count mem lt inside direct last few =
+    let d : Descriptor = descriptor_at mem table location in
+    ap (λ ds. pieces_with found (pieces_if_direct ds)) (chain_step n i location table count mem lt inside ∙ following_last d (λ next. chain_from (n - (i + 1)) mem table count next) last)
     ∙ ap (pieces_with found) (direct_first d (Some []) direct)
     ∙ pieces_with_some found (piece_of d ∷ []) (omega arith)
 
 -- and else goes on with the next
-pub table_more : (found : List Piece) (n i place table count : ℕ) (mem : List ℕ) → i < n → place < count → is_indirect (descriptor_at mem table place).flags ≡ false
-    → has_next (descriptor_at mem table place).flags ≡ true
-    → pieces_with found (pieces_if_direct (chain_from (n - i) mem table count place))
-    ≡ pieces_with (found ++ piece_of (descriptor_at mem table place) ∷ []) (pieces_if_direct (chain_from (n - (i + 1)) mem table count (descriptor_at mem table place).next))
-table_more found n i place table count mem lt inside direct more =
-    let d : Descriptor = descriptor_at mem table place in
+pub table_more : (found : List Piece) (n i location table count : ℕ) (mem : List ℕ) → i < n → location < count → is_indirect (descriptor_at mem table location).flags ≡ false
+    → has_next (descriptor_at mem table location).flags ≡ true
+    → pieces_with found (pieces_if_direct (chain_from (n - i) mem table count location))
+    ≡ pieces_with (found ++ piece_of (descriptor_at mem table location) ∷ []) (pieces_if_direct (chain_from (n - (i + 1)) mem table count (descriptor_at mem table location).next))
+table_more found n i location table count mem lt inside direct more =
+    let d : Descriptor = descriptor_at mem table location in
     let rest : Option (List Descriptor) = chain_from (n - (i + 1)) mem table count d.next in
-    ap (λ ds. pieces_with found (pieces_if_direct ds)) (chain_step n i place table count mem lt inside ∙ following_more d (λ next. chain_from (n - (i + 1)) mem table count next) more)
+    ap (λ ds. pieces_with found (pieces_if_direct ds)) (chain_step n i location table count mem lt inside ∙ following_more d (λ next. chain_from (n - (i + 1)) mem table count next) more)
     ∙ ap (pieces_with found) (direct_first d rest direct)
     ∙ pieces_with_cons found (piece_of d) (pieces_if_direct rest)
 
@@ -141,21 +141,21 @@ full_before : (found : List Piece) (o : Option (List Descriptor)) → ((ds : Lis
 full_before found None some full = refl
 full_before found (Some ds) some full = full_by_test (list_all (λ (d : Descriptor). not (is_indirect d.flags)) ds) found ds (some ds refl) full
 
--- a walk fails where its place is not in the table, or eight pieces are found
-pub table_fails : (found : List Piece) (left place table count : ℕ) (mem : List ℕ) → (count ≤ place) ⊎ (8 ≤ length found)
-    → pieces_with found (pieces_if_direct (chain_from left mem table count place)) ≡ None
-table_fails found left place table count mem (inl past) = ap (λ ds. pieces_with found (pieces_if_direct ds)) (chain_from_past left mem table count place past)
-table_fails found left place table count mem (inr full) =
-    full_before found (chain_from left mem table count place) (λ ds is. (length-chain_from left mem table count place ds is).0) full
+-- a walk fails where its location is not in the table, or eight pieces are found
+pub table_fails : (found : List Piece) (left location table count : ℕ) (mem : List ℕ) → (count ≤ location) ⊎ (8 ≤ length found)
+    → pieces_with found (pieces_if_direct (chain_from left mem table count location)) ≡ None
+table_fails found left location table count mem (inl past) = ap (λ ds. pieces_with found (pieces_if_direct ds)) (chain_from_past left mem table count location past)
+table_fails found left location table count mem (inr full) =
+    full_before found (chain_from left mem table count location) (λ ds is. (length-chain_from left mem table count location ds is).0) full
 
 -- one step along a packed table
 pub packed_step : (found : List Piece) (n i table : ℕ) (mem : List ℕ) → i < n
     → found ++ packed_table (n - i) mem (table + 16 * i) ≡ (found ++ packed_piece_of (packed_descriptor_in (part mem (table + 16 * i) 16)) ∷ []) ++ packed_table (n - (i + 1)) mem (table + 16 * (i + 1))
 packed_step found n i table mem lt =
     let e : n - i ≡ suc (n - (i + 1)) = omega arith in
-    let place : table + 16 * (i + 1) ≡ table + 16 * i + 16 = omega arith in
+    let location : table + 16 * (i + 1) ≡ table + 16 * i + 16 = omega arith in
     let at : ℕ = table + 16 * i in
-    rw (e, place) (sym (append_assoc found (packed_piece_of (packed_descriptor_in (part mem at 16)) ∷ []) (packed_table (n - (i + 1)) mem (at + 16))))
+    rw (e, location) (sym (append_assoc found (packed_piece_of (packed_descriptor_in (part mem at 16)) ∷ []) (packed_table (n - (i + 1)) mem (at + 16))))
 
 -- a packed table has as many pieces as descriptors
 pub length-packed_table : (count : ℕ) (mem : List ℕ) (table : ℕ) → length (packed_table count mem table) ≡ count

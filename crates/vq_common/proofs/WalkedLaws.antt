@@ -28,7 +28,7 @@ pub shown_unless_bad : (b : Bool) (w : Walked) (c : ChainValue) → (if b then B
 shown_unless_bad true w c is = absurd (cc)
 shown_unless_bad false w c is = is
 
--- a chain that is shown keeps the rules, and has the places that it was given
+-- a chain that is shown keeps the rules, and has the locations that it was given
 pub valid_is_shown : (memory id slots : ℕ) (o : Option (List Piece)) (c : ChainValue) → chain_if_valid memory id slots o ≡ Front c
     → IsTrue (keeps_rules memory c.pieces) × (c.slots ≡ slots)
 valid_is_shown memory id slots None c is = absurd (cc)

@@ -1,17 +1,14 @@
 use Rattle.std.specs.Prelude.{◌≡◌, ℕ, ◌≤◌, All, length, take, sum}
+use Rattle.vt_types.specs.Limits.{LONGEST_BUFFER, MOST_PIECES}
 use Rattle.vt_types.specs.Operation.{PostedBuffer}
+use Rattle.vt_types.specs.Within.{IsPieceWithin}
 
--- a length that a piece may have
-pub record IsPieceLength (n : ℕ) : Type 0 where
-  pub low : 1 ≤ n
-  pub high : n ≤ 4096
-
--- a buffer that may be posted: 1 to 8 pieces of 1 to 4,096 bytes, at most 8,192 bytes together, and the bytes of the
--- readable pieces
+-- a buffer that may be posted: some pieces, not too many, each with some bytes and none too long, not too many bytes
+-- together, and the bytes of the readable pieces
 pub record IsPostable (b : PostedBuffer) : Type 0 where
   pub some : 1 ≤ length b.lengths
-  pub few : length b.lengths ≤ 8
-  pub each : All IsPieceLength b.lengths
-  pub total : sum b.lengths ≤ 8192
+  pub few : length b.lengths ≤ MOST_PIECES
+  pub each : All IsPieceWithin b.lengths
+  pub total : sum b.lengths ≤ LONGEST_BUFFER
   pub split : b.readable_pieces ≤ length b.lengths
   pub readable : length b.readable ≡ sum (take b.readable_pieces b.lengths)

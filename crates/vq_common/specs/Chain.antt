@@ -8,7 +8,7 @@ use Rattle.vq_common.specs.declared.chain.Take.TheVariants as take
 use Rattle.vq_common.specs.Piece.{keeps_rules}
 use Rattle.vq_common.specs.Queue.{DeviceQueue, IsDeviceQueue}
 
--- a chain as contracts see it: its id, the places that it takes of the ring, and its pieces in order
+-- a chain as contracts see it: its id, the locations that it takes of the ring, and its pieces in order
 pub record ChainValue : Type 0 where
   pub id : ℕ
   pub slots : ℕ

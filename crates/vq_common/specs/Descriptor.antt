@@ -19,7 +19,7 @@ descriptor_in bytes =
 abbrev pub descriptor_bytes : Descriptor → List ℕ
 descriptor_bytes d = little_bytes 8 d.addr ++ (little_bytes 4 d.len ++ (little_bytes 2 d.flags ++ little_bytes 2 d.next))
 
--- the descriptor at a place of a table
+-- the descriptor at a location of a table
 abbrev pub descriptor_at : List ℕ → ℕ → ℕ → Descriptor
 descriptor_at mem table n = descriptor_in (part mem (table + 16 * n) 16)
 
@@ -47,8 +47,8 @@ piece_of d = record { addr = d.addr; len = d.len; write = is_write d.flags }
 abbrev pub and_following : Descriptor → (ℕ → Option (List Descriptor)) → Option (List Descriptor)
 and_following d follow = if has_next d.flags then option_map (λ ds. d ∷ ds) (follow d.next) else Some (d ∷ [])
 
--- the descriptors of a chain in a table of `count` places, from a place on, where they are at most `left` and each
--- place is in the table
+-- the descriptors of a chain in a table of `count` locations, from a location on, where they are at most `left` and each
+-- location is in the table
 abbrev pub chain_from : ℕ → List ℕ → ℕ → ℕ → ℕ → Option (List Descriptor)
 chain_from zero mem table count n = None
 chain_from (suc left) mem table count n =

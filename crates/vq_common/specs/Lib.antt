@@ -1,7 +1,6 @@
 pub mod Buffer
 pub mod Chain
 pub mod Descriptor
-pub mod Map
 pub mod PackedDescriptor
 pub mod Pages
 pub mod Partial

@@ -20,7 +20,7 @@ packed_descriptor_in bytes =
 abbrev pub packed_descriptor_bytes : PackedDescriptor → List ℕ
 packed_descriptor_bytes d = little_bytes 8 d.addr ++ (little_bytes 4 d.len ++ (little_bytes 2 d.id ++ little_bytes 2 d.flags))
 
--- the descriptor at a place of a ring or a table
+-- the descriptor at a location of a ring or a table
 abbrev pub packed_descriptor_at : List ℕ → ℕ → ℕ → PackedDescriptor
 packed_descriptor_at mem table n = packed_descriptor_in (part mem (table + 16 * n) 16)
 

@@ -1,11 +1,12 @@
 use Rattle.std.specs.Prelude.{◌≡◌, ℕ, zero, suc, ◌+◌, ◌-◌, ◌==◌, ◌&&◌, nat_le, List, [], ◌∷◌, ◌++◌, length, take, drop, Bool, true, if◌then◌else◌}
 use Rattle.std.specs.List.{list_all}
+use Rattle.vt_types.specs.Limits.{LONGEST_BUFFER, LONGEST_PIECE, MOST_PIECES}
 use Rattle.guest_mem.specs.Memory.{part, put_at}
 use Rattle.vq_common.specs.declared.chain.Piece.{Piece}
 
--- a piece has 1 to 4,096 bytes and lies inside a memory of this length
+-- a piece has some bytes, at most the longest one's, and lies inside a memory of this length
 abbrev pub is_piece : ℕ → Piece → Bool
-is_piece memory p = nat_le 1 p.len && nat_le p.len 4096 && nat_le (p.addr + p.len) memory
+is_piece memory p = nat_le 1 p.len && nat_le p.len LONGEST_PIECE && nat_le (p.addr + p.len) memory
 
 -- the first of pieces that begin at an address, `readable` of which are readable; it has `len` bytes
 abbrev pub piece_at : ℕ → ℕ → ℕ → Piece
@@ -26,11 +27,11 @@ abbrev pub length_of_all : List Piece → ℕ
 length_of_all [] = 0
 length_of_all (p ∷ ps) = p.len + length_of_all ps
 
--- the rules on the pieces of a chain: 1 to 8 of them, each of 1 to 4,096 bytes and inside memory, at most 8,192 bytes
--- together, no readable one after a writable one
+-- the rules on the pieces of a chain: some, not too many, each a piece inside memory, not too many bytes together, no
+-- readable one after a writable one
 abbrev pub keeps_rules : ℕ → List Piece → Bool
 keeps_rules memory ps =
-    nat_le 1 (length ps) && nat_le (length ps) 8 && list_all (is_piece memory) ps && nat_le (length_of_all ps) 8192 && is_readable_first ps
+    nat_le 1 (length ps) && nat_le (length ps) MOST_PIECES && list_all (is_piece memory) ps && nat_le (length_of_all ps) LONGEST_BUFFER && is_readable_first ps
 
 -- the readable bytes of a chain: those of its readable pieces, one after the other
 abbrev pub readable : List ℕ → List Piece → List ℕ

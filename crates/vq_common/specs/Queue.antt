@@ -1,15 +1,24 @@
-use Rattle.std.specs.Prelude.{◌≡◌, ℕ, ◌+◌, ◌-◌, ◌<◌, ◌==◌, ◌||◌, List, [], ◌∷◌, Bool, true, false, Option, Some, None, length, nat_lt, if◌then◌else◌}
+use Rattle.std.specs.Prelude.{◌≡◌, ℕ, ◌+◌, ◌-◌, ◌<◌, ◌==◌, ◌||◌, ◌&&◌, nat_le, List, [], ◌∷◌, Bool, true, false, Option, Some, None, length, nat_lt, if◌then◌else◌}
 use Rattle.vt_types.specs.Access.{AccessValue}
+use Rattle.vt_types.specs.Device.{GREATEST_QUEUE}
 use Rattle.vt_types.specs.Operation.{PostedBuffer}
 use Rattle.vt_types.specs.Program.{Program, Mark, End, do_all, cost_of_all}
 use Rattle.vq_common.specs.declared.chain.RingCfg.{RingCfg}
 use Rattle.vq_common.specs.declared.driver_end.Reaped.{Reaped}
-use Rattle.vq_common.specs.Map.{IsQueueBlock, driver_area, device_area}
+use Rattle.vt_layout.specs.QueueBlock.{IsQueueBlock, driver_area, device_area}
 
--- the sizes that a ring end takes: the powers of two up to 1,024
+-- the greatest size of a ring (our own)
+abbrev pub GREATEST_RING : ℕ
+GREATEST_RING = 1024
+
+-- the sizes that a ring end takes: the powers of two up to the greatest
 abbrev pub is_ring_size : ℕ → Bool
 is_ring_size n =
-    n == 1 || n == 2 || n == 4 || n == 8 || n == 16 || n == 32 || n == 64 || n == 128 || n == 256 || n == 512 || n == 1024
+    n == 1 || n == 2 || n == 4 || n == 8 || n == 16 || n == 32 || n == 64 || n == 128 || n == 256 || n == 512 || n == GREATEST_RING
+
+-- the sizes that a queue of a device may have
+abbrev pub is_queue_size : ℕ → Bool
+is_queue_size n = is_ring_size n && nat_le n GREATEST_QUEUE
 
 -- a device's record of a queue: on a split ring the numbers of heads taken and of elements used, modulo 2 ^ 16; on a
 -- packed ring the two positions with their wrap counters
@@ -64,7 +73,7 @@ abbrev pub new_driver_queue : RingCfg → ℕ → DriverQueue
 new_driver_queue cfg base = record { cfg = cfg; base = base; available = 0; available_wrap = true; used = 0; used_wrap = true; unreaped = [] }
 
 -- the three areas are those of the queue block that begins at `base`
-pub record IsPlaced (cfg : RingCfg) (base : ℕ) : Type 0 where
+pub record IsInBlock (cfg : RingCfg) (base : ℕ) : Type 0 where
   pub block : IsQueueBlock base
   pub desc : cfg.desc ≡ base
   pub driver : cfg.driver ≡ driver_area base

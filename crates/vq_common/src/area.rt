@@ -1,6 +1,7 @@
 //! Numbers and bytes in areas that are known to lie inside guest memory.
 
 ghost use Rattle.std.specs.Prelude.{◌≡◌, ◌+◌, ◌≤◌, length};
+ghost use Rattle.vt_types.specs.Limits.{GUEST_PAGE};
 ghost use Rattle.guest_mem.specs.Memory.{le16_at, le16_of, part, put_at};
 ghost use Rattle.vq_common.specs.Pages.{PAGES_OF_PUT};
 
@@ -38,10 +39,10 @@ pub fn le16_at(mem: &GuestMem, area: u64, offset: u64) -> u16
     LittleEndian::read_u16(&bytes_at::<2>(mem, area, offset))
 }
 
-/// Puts at most 4,096 bytes at an offset of an area. It makes at most `PAGES_OF_PUT` pages of memory.
+/// Puts at most `GUEST_PAGE` bytes at an offset of an area. It makes at most `PAGES_OF_PUT` pages of memory.
 #[inline(always)]
 pub fn put(mem: &mut GuestMem, area: u64, offset: u64, bytes: &[u8])
-    requires small { length bytes.now ≤ 4096 }
+    requires small { length bytes.now ≤ GUEST_PAGE }
     requires inside { area + offset + length bytes.now ≤ length mem.old.bytes }
     requires pages { PAGES_OF_PUT ≤ mem.old.spare }
     ensures bytes { mem.new.bytes ≡ put_at mem.old.bytes (area + offset) bytes.now }

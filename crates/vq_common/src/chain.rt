@@ -1,13 +1,14 @@
 //! Pieces, chains and a ring's configuration.
 
 ghost use Rattle.std.specs.Prelude.{◌≡◌, ◌+◌, ◌<◌, ◌≤◌, ◌^◌, IsTrue, length, min, take};
+ghost use Rattle.vt_types.specs.Limits.{LONGEST_PIECE};
 ghost use Rattle.guest_mem.specs.Memory.{put_at};
 ghost use Rattle.vq_common.specs.Pages.{PAGES_OF_PUT, PAGES_OF_SCATTER};
 ghost use Rattle.vq_common.specs.Piece.{keeps_rules, readable, readable_len, room, scatter};
 
 use arrayvec::ArrayVec;
 use guest_mem::GuestMem;
-use vt_types::Room;
+use vt_types::{MOST_PIECES, Room};
 
 /// A piece of a buffer: `len` bytes of guest memory from `addr` on, which the device reads, or writes where `write`.
 #[derive(Clone, Copy, Debug, Default, PartialEq, Eq)]
@@ -17,12 +18,12 @@ pub struct Piece {
     pub write: bool,
 }
 
-/// A chain of descriptors: its id (split: its head), the places that it takes of the ring, and its pieces in order.
+/// A chain of descriptors: its id (split: its head), the locations that it takes of the ring, and its pieces in order.
 #[derive(Clone, Drop)]
 pub struct Chain {
     pub id: u16,
     pub slots: u16,
-    pub pieces: ArrayVec<Piece, 8>,
+    pub pieces: ArrayVec<Piece, MOST_PIECES>,
 }
 
 /// Where a ring lies in guest memory (descriptor, driver and device area), how many descriptors it has, and whether
@@ -48,7 +49,7 @@ pub enum Take {
 /// Writes the first bytes, at most `len`, over memory from `addr` on, and answers how many they are.
 #[inline(always)]
 fn write_piece(mem: &mut GuestMem, addr: u64, len: u32, bytes: &[u8]) -> usize
-    requires small { len ≤ 4096 }
+    requires small { len ≤ LONGEST_PIECE }
     requires inside { addr + len ≤ length mem.old.bytes }
     requires pages { PAGES_OF_PUT ≤ mem.old.spare }
     ensures count { result ≡ min len (length bytes.now) }

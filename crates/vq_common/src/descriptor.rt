@@ -12,7 +12,7 @@ use bitflags::{Flag, Flags, bitflag_items};
 use byteorder::{ByteOrder, LittleEndian};
 use guest_mem::GuestMem;
 
-/// A descriptor: `len` bytes of guest memory from `addr` on, its flags, and the place of the next descriptor of its
+/// A descriptor: `len` bytes of guest memory from `addr` on, its flags, and the location of the next descriptor of its
 /// chain (VIRTIO 1.2, 2.7.5).
 #[derive(Clone, Copy, Debug, Default, PartialEq, Eq)]
 pub struct Descriptor {
@@ -67,12 +67,12 @@ impl DescriptorFlags {
     }
 }
 
-/// The 16 bytes of a place of a table. None exactly where they are not inside memory.
-pub fn place_bytes(mem: &GuestMem, table: u64, place: u16) -> Option<[u8; 16]>
-    ensures inside { IsSome result ↔ (table + 16 * place + 16 ≤ length mem.now.bytes) }
-    ensures value { IfSome result (λ bytes. bytes ≡ part mem.now.bytes (table + 16 * place) 16) }
+/// The 16 bytes of a location of a table. None exactly where they are not inside memory.
+pub fn location_bytes(mem: &GuestMem, table: u64, location: u16) -> Option<[u8; 16]>
+    ensures inside { IsSome result ↔ (table + 16 * location + 16 ≤ length mem.now.bytes) }
+    ensures value { IfSome result (λ bytes. bytes ≡ part mem.now.bytes (table + 16 * location) 16) }
 {
-    let offset = 16 * place as u64;
+    let offset = 16 * location as u64;
     if is_inside(mem.len(), table, offset + 16) {
         Some(bytes_at(mem, table, offset))
     } else {
@@ -90,12 +90,12 @@ pub fn half(len: u32, first: u16, second: u16) -> u64
 }
 
 impl Descriptor {
-    /// The descriptor at a place of a table. None exactly where its 16 bytes are not inside memory.
-    pub fn read(mem: &GuestMem, table: u64, place: u16) -> Option<Descriptor>
-        ensures inside { IsSome result ↔ (table + 16 * place + 16 ≤ length mem.now.bytes) }
-        ensures value { IfSome result (λ d. d ≡ descriptor_at mem.now.bytes table place) }
+    /// The descriptor at a location of a table. None exactly where its 16 bytes are not inside memory.
+    pub fn read(mem: &GuestMem, table: u64, location: u16) -> Option<Descriptor>
+        ensures inside { IsSome result ↔ (table + 16 * location + 16 ≤ length mem.now.bytes) }
+        ensures value { IfSome result (λ d. d ≡ descriptor_at mem.now.bytes table location) }
     {
-        let bytes = place_bytes(mem, table, place)?;
+        let bytes = location_bytes(mem, table, location)?;
         Some(Descriptor {
             addr: LittleEndian::read_u64(&bytes),
             len: LittleEndian::read_u32(&bytes[8..]),

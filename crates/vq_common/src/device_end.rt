@@ -30,7 +30,7 @@ pub trait DeviceEnd: Sized {
     /// What giving a chain back, with a number of bytes written, leaves.
     ghost given: { List ℕ → DeviceQueue → ChainValue → ℕ → Given };
 
-    /// Nothing is taken yet; indices and positions are at their start. The size is a power of two, at most 1,024.
+    /// Nothing is taken yet; indices and positions are at their start. The size is a power of two, at most that of the greatest ring.
     fn new(cfg: &RingCfg) -> Self
         requires { IsTrue (is_ring_size cfg.now.size) }
         ensures { queue result ≡ new_device_queue cfg.now };
@@ -58,7 +58,7 @@ pub trait DeviceEnd: Sized {
         ensures undoes { UndoesTake positions taken (queue self.old) (chain_value chain.now) (queue self.new) }
         ensures ring { KeepsRing (queue self.old) (queue self.new) };
 
-    /// A chain that the walk shows keeps the rules on pieces, takes no more places than the ring has, and is shown only
+    /// A chain that the walk shows keeps the rules on pieces, takes no more locations than the ring has, and is shown only
     /// where the areas lie inside memory.
     ghost shown: { (mem : List ℕ) (q : DeviceQueue) (c : ChainValue) → walk mem q ≡ Front c → IsShown areas_inside (length mem) q c };
 }

@@ -1,11 +1,12 @@
 //! The driver's end of a queue.
 
 ghost use Rattle.std.specs.Prelude.{◌≡◌, ℕ, ◌+◌, ◌<◌, ◌≤◌, List, Bool, Option, IsTrue, is_ok, IfOk, nat_le, false, length};
+ghost use Rattle.vt_types.specs.Limits.{MOST_PIECES};
 ghost use Rattle.vt_types.specs.Operation.{PostedBuffer, posted_buffer};
 ghost use Rattle.vt_types.specs.Program.{Program, Gives, cost_of_all};
 ghost use Rattle.vt_types.specs.Access.{AccessValue};
 ghost use Rattle.vq_common.specs.Buffer.{IsPostable};
-ghost use Rattle.vq_common.specs.Queue.{DriverQueue, ReapedValue, IsPlaced, KeepsBlock, GREATEST_COST_OF_POST, new_driver_queue, free_slots, slots_of, holds_tag, post_program, cost_of_post, cost_of_reap, cost_of_reaped, reaped_value, is_ring_size};
+ghost use Rattle.vq_common.specs.Queue.{DriverQueue, ReapedValue, IsInBlock, KeepsBlock, GREATEST_COST_OF_POST, new_driver_queue, free_slots, slots_of, holds_tag, post_program, cost_of_post, cost_of_reap, cost_of_reaped, reaped_value, is_ring_size};
 
 use crate::chain::RingCfg;
 use std::alloc::Global;
@@ -25,7 +26,7 @@ pub struct Reaped {
 /// The slots that a buffer takes of a ring: one for an indirect table, else one for each piece.
 pub fn slots_of(buf: &PostBuf) -> u16
     ensures value { result ≡ slots_of (posted_buffer buf.now) }
-    ensures few { result ≤ 8 }
+    ensures few { result ≤ MOST_PIECES }
 {
     if buf.indirect {
         1
@@ -59,16 +60,16 @@ pub trait DriverEnd: Sized {
     /// The accesses that ask for signals or for none.
     ghost signals_program: { DriverQueue → Bool → Program DriverQueue };
 
-    /// An end for queues of up to `max` places; none is started.
+    /// An end for queues of up to `max` locations; none is started.
     fn new(alloc: Global, max: u16) -> Result<Self, Memory>
         ensures { IfOk result (λ d. (greatest d ≡ max) × ((queue d).cfg.size ≡ 0)) };
 
-    /// Begins a queue: no buffer is unreaped. The size is a power of two, at most `max` and at most 1,024; `base` is a
+    /// Begins a queue: no buffer is unreaped. The size is a power of two, at most `max` and at most that of the greatest ring; `base` is a
     /// queue block and the three areas are its own.
     fn start(&mut self, cfg: &RingCfg, base: u64)
         requires size { IsTrue (is_ring_size cfg.now.size) }
         requires greatest { cfg.now.size ≤ greatest self.old }
-        requires placed { IsPlaced cfg.now base }
+        requires in_block { IsInBlock cfg.now base }
         ensures queue { queue self.new ≡ new_driver_queue cfg.now base }
         ensures greatest { greatest self.new ≡ greatest self.old };
 

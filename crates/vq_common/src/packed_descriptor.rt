@@ -5,7 +5,7 @@ ghost use Rattle.vq_common.specs.Descriptor.{has_next, is_indirect};
 ghost use Rattle.vq_common.specs.PackedDescriptor.{available_flags, packed_descriptor_at, packed_descriptor_bytes, packed_descriptor_in, is_available, is_used, packed_piece_of};
 
 use crate::chain::Piece;
-use crate::descriptor::{half, place_bytes};
+use crate::descriptor::{half, location_bytes};
 use bitflags::{Flag, Flags, bitflag_items};
 use byteorder::{ByteOrder, LittleEndian};
 use guest_mem::GuestMem;
@@ -93,12 +93,12 @@ impl PackedDescriptor {
         bytes
     }
 
-    /// The descriptor at a place of a ring. None exactly where its 16 bytes are not inside memory.
-    pub fn read(mem: &GuestMem, table: u64, place: u16) -> Option<PackedDescriptor>
-        ensures inside { IsSome result ↔ (table + 16 * place + 16 ≤ length mem.now.bytes) }
-        ensures value { IfSome result (λ d. d ≡ packed_descriptor_at mem.now.bytes table place) }
+    /// The descriptor at a location of a ring. None exactly where its 16 bytes are not inside memory.
+    pub fn read(mem: &GuestMem, table: u64, location: u16) -> Option<PackedDescriptor>
+        ensures inside { IsSome result ↔ (table + 16 * location + 16 ≤ length mem.now.bytes) }
+        ensures value { IfSome result (λ d. d ≡ packed_descriptor_at mem.now.bytes table location) }
     {
-        let bytes = place_bytes(mem, table, place)?;
+        let bytes = location_bytes(mem, table, location)?;
         Some(PackedDescriptor::from_bytes(&bytes))
     }
 
@@ -118,7 +118,7 @@ impl PackedDescriptor {
         flags.contains(PackedFlags::AVAIL) == wrap && flags.contains(PackedFlags::USED) == wrap
     }
 
-    /// Whether the chain goes on at the next place.
+    /// Whether the chain goes on at the next location.
     pub fn has_next(self) -> bool
         ensures { result ≡ has_next self.flags }
     {

@@ -1,6 +1,7 @@
-//! Bytes of a chain from a place on, a few at a time.
+//! Bytes of a chain from a location on, a few at a time.
 
 ghost use Rattle.std.specs.Prelude.{◌≡◌, ◌+◌, ◌-◌, ◌*◌, ◌≤◌, ◌++◌, IsTrue, length, min, take, drop};
+ghost use Rattle.vt_types.specs.Limits.{GUEST_PAGE};
 ghost use Rattle.guest_mem.specs.Memory.{part};
 ghost use Rattle.guest_mem.specs.Pages.{missing, written};
 ghost use Rattle.vq_common.specs.Piece.{keeps_rules, readable, readable_len};
@@ -31,7 +32,7 @@ fn write_from(mem: &mut GuestMem, piece: &Piece, offset: u32, bytes: &[u8]) -> u
     requires pages { missing mem.old.made (piece.now.addr + offset) (min (piece.now.len - offset) (length bytes.now)) ≤ mem.old.spare }
     ensures count { result ≡ min (piece.now.len - offset) (length bytes.now) }
     ensures memory { mem.new ≡ written mem.old (piece.now.addr + offset) (take (piece.now.len - offset) bytes.now) }
-    ensures paged { length mem.old.bytes ≤ length mem.old.made * 4096 }
+    ensures paged { length mem.old.bytes ≤ length mem.old.made * GUEST_PAGE }
 {
     // No address of the piece passes this length, so the sum below fits.
     let _memory = mem.len();

@@ -4,6 +4,14 @@ ghost use Rattle.std.specs.Prelude.{◌≡◌, ◌+◌, ◌-◌, ◌<◌, ◌^�
 ghost use Rattle.vq_common.specs.Piece.{piece_at};
 
 use crate::chain::Piece;
+use arrayvec::ArrayVec;
+use vt_layout::queue_block::TABLE_LEN;
+
+/// How many bytes an indirect table of a driver may have.
+const TABLE_SIZE: usize = TABLE_LEN as usize;
+
+/// The bytes of an indirect table of a driver.
+pub type TableBytes = ArrayVec<u8, TABLE_SIZE>;
 
 /// The pieces of a buffer that are still to come: where they begin, one after the other, and how many of them are
 /// readable.

@@ -6,21 +6,22 @@ ghost use Rattle.vq_common.specs.Piece.{is_piece, keeps_rules};
 ghost use Rattle.vq_common.specs.Queue.{is_ring_size};
 
 use crate::chain::Piece;
+use vt_types::{LONGEST_BUFFER, LONGEST_PIECE, MOST_PIECES};
 
-/// The greatest size of a ring.
+/// The greatest size of a ring (our own).
 const GREATEST_RING: u16 = 1024;
 
-/// Whether a ring may have this size: a power of two, at most 1,024.
+/// Whether a ring may have this size: a power of two, at most `GREATEST_RING`.
 pub fn is_ring_size(size: u16) -> bool
     ensures { result ≡ is_ring_size size }
 {
     size.is_power_of_two() && size <= GREATEST_RING
 }
 
-/// The place of a split ring of `size` descriptors at which an element with this index lies.
+/// The location of a split ring of `size` descriptors at which an element with this index lies.
 #[tactic(auto, using(crate::proofs::QueueLaws::masked, crate::proofs::QueueLaws::ring_size_facts))]
 #[inline]
-pub fn ring_place(index: u16, size: u16) -> u16
+pub fn ring_location(index: u16, size: u16) -> u16
     requires { IsTrue (is_ring_size size) }
     ensures { result ≡ index % size }
 {
@@ -34,19 +35,21 @@ pub fn is_inside(memory: u64, addr: u64, len: u64) -> bool
     len <= memory && addr <= memory - len
 }
 
-/// Whether a piece has 1 to 4,096 bytes and lies inside a memory of `memory` bytes.
+/// Whether a piece has 1 to `LONGEST_PIECE` bytes and lies inside a memory of `memory` bytes.
 fn is_piece_valid(memory: u64, piece: &Piece) -> bool
     ensures { result ≡ is_piece memory piece.now }
 {
-    piece.len >= 1 && piece.len <= 4096 && is_inside(memory, piece.addr, piece.len as u64)
+    piece.len >= 1
+        && piece.len <= u32::from(LONGEST_PIECE)
+        && is_inside(memory, piece.addr, piece.len as u64)
 }
 
-/// Whether pieces keep the rules of a chain: there are 1 to 8, each has 1 to 4,096 bytes inside a memory of `memory`
-/// bytes, together they have at most 8,192 bytes, and no readable one follows a writable one.
+/// Whether pieces keep the rules of a chain: there are 1 to `MOST_PIECES`, each has 1 to `LONGEST_PIECE` bytes inside a
+/// memory of `memory` bytes, together they have at most `LONGEST_BUFFER` bytes, and no readable one follows a writable one.
 pub fn are_pieces_valid(memory: u64, pieces: &[Piece]) -> bool
     ensures { result ≡ keeps_rules memory pieces.now }
 {
-    if pieces.is_empty() || pieces.len() > 8 {
+    if pieces.is_empty() || pieces.len() > MOST_PIECES {
         return false;
     }
     let mut total = 0;
@@ -58,5 +61,5 @@ pub fn are_pieces_valid(memory: u64, pieces: &[Piece]) -> bool
         total += piece.len;
         writable = piece.write;
     }
-    total <= 8192
+    total <= LONGEST_BUFFER as u32
 }

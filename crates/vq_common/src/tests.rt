@@ -10,7 +10,7 @@ use guest_mem::{GuestMem, Memory};
 use std::alloc::Global;
 use std::process::Abort;
 use std::test::Fail;
-use vt_types::{Bytes, PostBuf, Room};
+use vt_types::{Bytes, MOST_PIECES, PostBuf, Room};
 
 const TABLE: u64 = 0x100;
 
@@ -43,9 +43,9 @@ fn memory_with(alloc: Global, table: &[Descriptor]) -> Result<GuestMem, Memory>
     requires { length table.now ≤ 9 }
 {
     let mut mem = GuestMem::new(alloc, 4096)?;
-    for (place, descriptor) in table.iter().enumerate() {
+    for (location, descriptor) in table.iter().enumerate() {
         mem.reserve(alloc, 2)?;
-        let _ = mem.write(TABLE + 16 * place as u64, &descriptor.to_bytes());
+        let _ = mem.write(TABLE + 16 * location as u64, &descriptor.to_bytes());
     }
     Ok(mem)
 }
@@ -195,7 +195,7 @@ fn try_adding(rt: &impl Abort, mem: &GuestMem, before: usize, count: u32, split:
     requires behind { before ≤ 8 }
     requires few { count ≤ 8 }
 {
-    let mut pieces: ArrayVec<Piece, 8> = ArrayVec::new();
+    let mut pieces: ArrayVec<Piece, MOST_PIECES> = ArrayVec::new();
     for _ in 0..before {
         assert!(rt; pieces.try_push(readable(0, 1)).is_ok());
     }

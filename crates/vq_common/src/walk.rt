@@ -8,38 +8,39 @@ use crate::chain::Piece;
 use crate::descriptor::Descriptor;
 use arrayvec::ArrayVec;
 use guest_mem::GuestMem;
+use vt_types::MOST_PIECES;
 
 /// What one step of a walk comes to.
 #[derive(Clone, Copy, Debug, PartialEq, Eq)]
 pub enum WalkStep {
-    /// The descriptor's piece was added, and the chain goes on at this place.
+    /// The descriptor's piece was added, and the chain goes on at this location.
     Next(u16),
     /// The descriptor's piece was added, and the chain ends.
     End,
     /// The descriptor names a table. No piece was added.
     Table(Descriptor),
-    /// There is no such place, or no room for another piece. No piece was added.
+    /// There is no such location, or no room for another piece. No piece was added.
     Bad,
 }
 
 impl WalkStep {
-    /// Takes one step of a walk: reads the descriptor at a place of a table of `count` descriptors, and adds the piece that
+    /// Takes one step of a walk: reads the descriptor at a location of a table of `count` descriptors, and adds the piece that
     /// it names unless it names a table.
     #[inline(always)]
     pub fn take(
         mem: &GuestMem,
         table: u64,
         count: u16,
-        place: u16,
-        pieces: &mut ArrayVec<Piece, 8>,
+        location: u16,
+        pieces: &mut ArrayVec<Piece, MOST_PIECES>,
     ) -> WalkStep
         requires { table + 16 * count ≤ length mem.now.bytes }
-        ensures { Steps count place (descriptor_at mem.now.bytes table place) pieces.old.items result pieces.new.items }
+        ensures { Steps count location (descriptor_at mem.now.bytes table location) pieces.old.items result pieces.new.items }
     {
-        if place >= count {
+        if location >= count {
             return WalkStep::Bad;
         }
-        let descriptor = match Descriptor::read(mem, table, place) {
+        let descriptor = match Descriptor::read(mem, table, location) {
             Some(descriptor) => descriptor,
             None => return WalkStep::Bad,
         };

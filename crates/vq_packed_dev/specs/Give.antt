@@ -3,12 +3,12 @@ use Rattle.byteorder.specs.Endian.{little_bytes}
 use Rattle.guest_mem.specs.Memory.{le16_at, put_at}
 use Rattle.vq_common.specs.declared.position.Position.{Position}
 use Rattle.vq_common.specs.Chain.{ChainValue}
-use Rattle.vq_common.specs.Position.{place_after, wrap_after, is_among, event_position}
+use Rattle.vq_common.specs.Position.{location_after, wrap_after, is_among, event_position}
 use Rattle.vq_common.specs.Queue.{DeviceQueue, Given}
 
 -- where the next used descriptor is written
 abbrev pub used_position : DeviceQueue → Position
-used_position q = record { place = q.used; wrap = q.used_wrap }
+used_position q = record { location = q.used; wrap = q.used_wrap }
 
 -- the flags of a used descriptor: WRITE where bytes were written, AVAIL and USED as the wrap counter (VIRTIO 1.2, 2.8.1
 -- and 2.8.3)
@@ -38,6 +38,6 @@ abbrev pub packed_given : List ℕ → DeviceQueue → ChainValue → ℕ → Gi
 packed_given mem q c len =
     record {
       memory = packed_given_memory mem q c.id len;
-      queue = record q { used = place_after q.cfg.size q.used c.slots; used_wrap = wrap_after q.cfg.size q.used q.used_wrap c.slots };
+      queue = record q { used = location_after q.cfg.size q.used c.slots; used_wrap = wrap_after q.cfg.size q.used q.used_wrap c.slots };
       signals = packed_signals (packed_given_memory mem q c.id len) q c.slots;
     }

@@ -7,7 +7,7 @@ use Rattle.vq_common.specs.Chain.{ChainValue, Walked, Empty, Front, IsShown}
 use Rattle.vq_common.specs.Descriptor.{has_next}
 use Rattle.vq_common.specs.PackedDescriptor.{packed_descriptor_at}
 use Rattle.vq_common.specs.Piece.{keeps_rules}
-use Rattle.vq_common.specs.Position.{place_after}
+use Rattle.vq_common.specs.Position.{location_after}
 use Rattle.vq_common.specs.Queue.{DeviceQueue}
 use Rattle.vq_common.proofs.WalkedLaws.{shown_if, shown_else_empty, valid_is_shown}
 use Rattle.vq_packed_dev.specs.Walk.{packed_walk, packed_areas_inside, packed_chain_from, packed_chain_of, packed_chain_shown, packed_pieces, last_id, is_next_available}
@@ -26,14 +26,14 @@ length-and_others n false d o ds few is =
     omega (arith, ap length same)
 
 -- a chain has no more descriptors than it may
-length-packed_chain_from : (n : ℕ) (mem : List ℕ) (c : RingCfg) (place : ℕ) (ds : List PackedDescriptor) → packed_chain_from n mem c place ≡ Some ds → length ds ≤ n
-length-packed_chain_from zero mem c place ds is = absurd (cc)
-length-packed_chain_from (suc n) mem c place ds is =
-    let d : PackedDescriptor = packed_descriptor_at mem c.desc place in
-    let next : ℕ = place_after c.size place 1 in
+length-packed_chain_from : (n : ℕ) (mem : List ℕ) (c : RingCfg) (location : ℕ) (ds : List PackedDescriptor) → packed_chain_from n mem c location ≡ Some ds → length ds ≤ n
+length-packed_chain_from zero mem c location ds is = absurd (cc)
+length-packed_chain_from (suc n) mem c location ds is =
+    let d : PackedDescriptor = packed_descriptor_at mem c.desc location in
+    let next : ℕ = location_after c.size location 1 in
     length-and_others n (has_next d.flags) d (packed_chain_from n mem c next) ds (λ rest more. length-packed_chain_from n mem c next rest more) is
 
--- a chain of some descriptors that is shown keeps the rules, and has no more places than they are
+-- a chain of some descriptors that is shown keeps the rules, and has no more locations than they are
 of_chain : (mem : List ℕ) (cfg : RingCfg) (n : ℕ) (o : Option (List PackedDescriptor)) (c : ChainValue)
     → ((ds : List PackedDescriptor) → o ≡ Some ds → length ds ≤ n) → packed_chain_of mem cfg o ≡ Front c → IsTrue (keeps_rules (length mem) c.pieces) × (c.slots ≤ n)
 of_chain mem cfg n None c few is = absurd (cc)
@@ -42,7 +42,7 @@ of_chain mem cfg n (Some ds) c few is =
     let le : length ds ≤ n = few ds refl in
     (rules, omega arith)
 
--- a chain that the walk shows keeps the rules, takes no more places than the ring has, and is shown only where the
+-- a chain that the walk shows keeps the rules, takes no more locations than the ring has, and is shown only where the
 -- areas lie inside memory
 pub shown : (mem : List ℕ) (q : DeviceQueue) (c : ChainValue) → packed_walk mem q ≡ Front c → IsShown packed_areas_inside (length mem) q c
 shown mem q c is =

@@ -6,7 +6,7 @@ use Rattle.vq_packed_dev.specs.declared.walk.ChainEnd.{ChainEnd}
 use Rattle.vq_common.specs.Chain.{ChainValue, Walked, Empty, Bad, chain_if_valid}
 use Rattle.vq_common.specs.Descriptor.{has_next, is_indirect}
 use Rattle.vq_common.specs.PackedDescriptor.{packed_descriptor_at, packed_piece_of, is_available}
-use Rattle.vq_common.specs.Position.{place_after, wrap_after}
+use Rattle.vq_common.specs.Position.{location_after, wrap_after}
 use Rattle.vq_common.specs.Queue.{DeviceQueue}
 use Rattle.vq_common.specs.Table.{table_pieces}
 
@@ -15,7 +15,7 @@ use Rattle.vq_common.specs.Table.{table_pieces}
 abbrev pub packed_areas_inside : ℕ → RingCfg → Bool
 packed_areas_inside memory c = nat_le (c.desc + 16 * c.size) memory && nat_le (c.driver + 4) memory && nat_le (c.device + 4) memory
 
--- the places of a packed ring
+-- the locations of a packed ring
 abbrev pub packed_positions : RingCfg → ℕ
 packed_positions c = c.size
 
@@ -23,10 +23,10 @@ packed_positions c = c.size
 abbrev pub and_others : PackedDescriptor → Option (List PackedDescriptor) → Option (List PackedDescriptor)
 and_others d others = if has_next d.flags then option_map (λ ds. d ∷ ds) others else Some (d ∷ [])
 
--- the descriptors of a chain from a place of the ring on, where they are at most `left` (VIRTIO 1.2, 2.8.6)
+-- the descriptors of a chain from a location of the ring on, where they are at most `left` (VIRTIO 1.2, 2.8.6)
 abbrev pub packed_chain_from : ℕ → List ℕ → RingCfg → ℕ → Option (List PackedDescriptor)
-packed_chain_from zero mem c place = None
-packed_chain_from (suc left) mem c place = and_others (packed_descriptor_at mem c.desc place) (packed_chain_from left mem c (place_after c.size place 1))
+packed_chain_from zero mem c location = None
+packed_chain_from (suc left) mem c location = and_others (packed_descriptor_at mem c.desc location) (packed_chain_from left mem c (location_after c.size location 1))
 
 -- the pieces of descriptors none of which names a table
 abbrev pub direct_pieces : List PackedDescriptor → Option (List Piece)
@@ -53,9 +53,9 @@ abbrev pub packed_chain_of : List ℕ → RingCfg → Option (List PackedDescrip
 packed_chain_of mem c None = Bad
 packed_chain_of mem c (Some ds) = chain_if_valid (length mem) (last_id ds) (length ds) (packed_pieces mem c ds)
 
--- what the ring shows at a place: the chain that begins there
+-- what the ring shows at a location: the chain that begins there
 abbrev pub packed_chain_shown : List ℕ → RingCfg → ℕ → Walked
-packed_chain_shown mem c place = packed_chain_of mem c (packed_chain_from c.size mem c place)
+packed_chain_shown mem c location = packed_chain_of mem c (packed_chain_from c.size mem c location)
 
 -- what is shown of a chain with this end and these pieces
 abbrev pub chain_with : ℕ → Option ChainEnd → List Piece → Walked
@@ -75,4 +75,4 @@ packed_walk mem q =
 
 -- once a chain is taken
 abbrev pub packed_taken : DeviceQueue → ChainValue → DeviceQueue
-packed_taken q c = record q { taken = place_after q.cfg.size q.taken c.slots; taken_wrap = wrap_after q.cfg.size q.taken q.taken_wrap c.slots }
+packed_taken q c = record q { taken = location_after q.cfg.size q.taken c.slots; taken_wrap = wrap_after q.cfg.size q.taken q.taken_wrap c.slots }

@@ -31,9 +31,9 @@ impl Model for PackedDevice {
 
     ghost Value = { DeviceQueue };
 
-    ghost view = { λ d. record { cfg = d.cfg; taken = d.taken.place; taken_wrap = d.taken.wrap; used = d.used.place; used_wrap = d.used.wrap } };
+    ghost view = { λ d. record { cfg = d.cfg; taken = d.taken.location; taken_wrap = d.taken.wrap; used = d.used.location; used_wrap = d.used.wrap } };
 
-    ghost invariant = { λ d. IsTrue (is_ring_size d.cfg.size) × (d.taken.place < d.cfg.size) × (d.used.place < d.cfg.size) };
+    ghost invariant = { λ d. IsTrue (is_ring_size d.cfg.size) × (d.taken.location < d.cfg.size) × (d.used.location < d.cfg.size) };
 }
 
 impl PackedDevice {
@@ -44,7 +44,7 @@ impl PackedDevice {
         if !areas_inside(mem.len(), &self.cfg) {
             return Take::Bad;
         }
-        let first = descriptor_at(mem, &self.cfg, self.taken.place);
+        let first = descriptor_at(mem, &self.cfg, self.taken.location);
         if first.is_available(self.taken.wrap) {
             chain_at(mem, &self.cfg, self.taken, first)
         } else {
@@ -136,7 +136,12 @@ impl DeviceEnd for PackedDevice {
 
     fn give(&mut self, mem: &mut GuestMem, chain: &Chain, len: u32) -> bool {
         let bytes = used_bytes(chain.id, len, self.used.wrap);
-        put(mem, self.cfg.desc, 16 * self.used.place as u64 + 8, &bytes);
+        put(
+            mem,
+            self.cfg.desc,
+            16 * self.used.location as u64 + 8,
+            &bytes,
+        );
         let signals = self.signals(mem, chain.slots);
         self.used = self.used.advance(self.cfg.size, chain.slots);
         signals

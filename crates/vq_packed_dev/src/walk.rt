@@ -11,6 +11,7 @@ use guest_mem::GuestMem;
 use vq_common::{
     Chain, PackedDescriptor, Piece, Position, RingCfg, Take, add_table, are_pieces_valid,
 };
+use vt_types::MOST_PIECES;
 
 /// Where a chain ends: the id of its last descriptor, and the slots that it takes of the ring.
 #[derive(Clone, Copy, Debug, PartialEq, Eq)]
@@ -19,13 +20,13 @@ pub struct ChainEnd {
     pub slots: u16,
 }
 
-/// The descriptor at a place of the ring.
-pub fn descriptor_at(mem: &GuestMem, cfg: &RingCfg, place: u16) -> PackedDescriptor
+/// The descriptor at a location of the ring.
+pub fn descriptor_at(mem: &GuestMem, cfg: &RingCfg, location: u16) -> PackedDescriptor
     requires inside { cfg.now.desc + 16 * cfg.now.size ≤ length mem.now.bytes }
-    requires place { place < cfg.now.size }
-    ensures { result ≡ packed_descriptor_at mem.now.bytes cfg.now.desc place }
+    requires location { location < cfg.now.size }
+    ensures { result ≡ packed_descriptor_at mem.now.bytes cfg.now.desc location }
 {
-    match PackedDescriptor::read(mem, cfg.desc, place) {
+    match PackedDescriptor::read(mem, cfg.desc, location) {
         Some(descriptor) => descriptor,
         None => unreachable!(),
     }
@@ -36,7 +37,7 @@ fn add_pieces_of_table(
     mem: &GuestMem,
     cfg: &RingCfg,
     only: PackedDescriptor,
-    pieces: &mut ArrayVec<Piece, 8>,
+    pieces: &mut ArrayVec<Piece, MOST_PIECES>,
 ) -> Option<ChainEnd>
     requires { pieces.old.items ≡ [] }
     ensures { chain_with (length mem.now.bytes) result pieces.new.items ≡ chain_if_valid (length mem.now.bytes) only.id 1 (pieces_of_table mem.now.bytes cfg.now only) }
@@ -61,14 +62,14 @@ fn add_pieces_from(
     cfg: &RingCfg,
     first_position: Position,
     first: PackedDescriptor,
-    pieces: &mut ArrayVec<Piece, 8>,
+    pieces: &mut ArrayVec<Piece, MOST_PIECES>,
 ) -> Option<ChainEnd>
     requires inside { cfg.now.desc + 16 * cfg.now.size ≤ length mem.now.bytes }
-    requires place { first_position.place < cfg.now.size }
-    requires first { first ≡ packed_descriptor_at mem.now.bytes cfg.now.desc first_position.place }
+    requires location { first_position.location < cfg.now.size }
+    requires first { first ≡ packed_descriptor_at mem.now.bytes cfg.now.desc first_position.location }
     requires direct { is_indirect first.flags ≡ false }
     requires none { pieces.old.items ≡ [] }
-    ensures { chain_with (length mem.now.bytes) result pieces.new.items ≡ packed_chain_shown mem.now.bytes cfg.now first_position.place }
+    ensures { chain_with (length mem.now.bytes) result pieces.new.items ≡ packed_chain_shown mem.now.bytes cfg.now first_position.location }
 {
     let mut position = first_position;
     let mut next = first;
@@ -86,7 +87,7 @@ fn add_pieces_from(
             });
         }
         position = position.advance(cfg.size, 1);
-        next = descriptor_at(mem, cfg, position.place);
+        next = descriptor_at(mem, cfg, position.location);
     }
     None
 }
@@ -97,13 +98,13 @@ fn add_pieces(
     cfg: &RingCfg,
     position: Position,
     first: PackedDescriptor,
-    pieces: &mut ArrayVec<Piece, 8>,
+    pieces: &mut ArrayVec<Piece, MOST_PIECES>,
 ) -> Option<ChainEnd>
     requires inside { cfg.now.desc + 16 * cfg.now.size ≤ length mem.now.bytes }
-    requires place { position.place < cfg.now.size }
-    requires first { first ≡ packed_descriptor_at mem.now.bytes cfg.now.desc position.place }
+    requires location { position.location < cfg.now.size }
+    requires first { first ≡ packed_descriptor_at mem.now.bytes cfg.now.desc position.location }
     requires none { pieces.old.items ≡ [] }
-    ensures { chain_with (length mem.now.bytes) result pieces.new.items ≡ packed_chain_shown mem.now.bytes cfg.now position.place }
+    ensures { chain_with (length mem.now.bytes) result pieces.new.items ≡ packed_chain_shown mem.now.bytes cfg.now position.location }
 {
     if first.is_indirect() {
         add_pieces_of_table(mem, cfg, first, pieces)
@@ -122,10 +123,10 @@ fn find_chain(
     chain: &mut Chain,
 ) -> bool
     requires inside { cfg.now.desc + 16 * cfg.now.size ≤ length mem.now.bytes }
-    requires place { position.place < cfg.now.size }
-    requires first { first ≡ packed_descriptor_at mem.now.bytes cfg.now.desc position.place }
+    requires location { position.location < cfg.now.size }
+    requires first { first ≡ packed_descriptor_at mem.now.bytes cfg.now.desc position.location }
     requires none { chain.old.pieces.items ≡ [] }
-    ensures { shown_if result chain.new ≡ packed_chain_shown mem.now.bytes cfg.now position.place }
+    ensures { shown_if result chain.new ≡ packed_chain_shown mem.now.bytes cfg.now position.location }
 {
     let Some(end) = add_pieces(mem, cfg, position, first, &mut chain.pieces) else {
         return false;
@@ -138,9 +139,9 @@ fn find_chain(
 /// What the ring shows at a position with an available descriptor: the chain that begins there, or something malformed.
 pub fn chain_at(mem: &GuestMem, cfg: &RingCfg, position: Position, first: PackedDescriptor) -> Take
     requires inside { cfg.now.desc + 16 * cfg.now.size ≤ length mem.now.bytes }
-    requires place { position.place < cfg.now.size }
-    requires first { first ≡ packed_descriptor_at mem.now.bytes cfg.now.desc position.place }
-    ensures { walked result ≡ packed_chain_shown mem.now.bytes cfg.now position.place }
+    requires location { position.location < cfg.now.size }
+    requires first { first ≡ packed_descriptor_at mem.now.bytes cfg.now.desc position.location }
+    ensures { walked result ≡ packed_chain_shown mem.now.bytes cfg.now position.location }
 {
     let mut chain = Chain {
         id: first.id,

@@ -42,20 +42,20 @@ ring_puts-same base size lengths id id2 a b r s position position2 e f h k =
 -- the i-th descriptor is put, and then the others
 pub ring_puts-next : (base size id : ℕ) (position : Position) (addr readable : ℕ) (lengths : List ℕ) (i : ℕ) → i < length lengths
     → ring_puts base size id position (pieces_from addr readable (drop i lengths))
-    ≡ Put (base + 16 * position.place) (packed_descriptor_bytes (ring_descriptor id position.wrap (ltb (i + 1) (length lengths)) (piece_at addr readable (get_or lengths i 0))))
+    ≡ Put (base + 16 * position.location) (packed_descriptor_bytes (ring_descriptor id position.wrap (ltb (i + 1) (length lengths)) (piece_at addr readable (get_or lengths i 0))))
     ∷ ring_puts base size id (position_after size position 1) (pieces_from (addr + get_or lengths i 0) (readable - 1) (drop (i + 1) lengths))
 ring_puts-next base size id position addr readable lengths i less =
     let rest : List Piece = pieces_from (addr + get_or lengths i 0) (readable - 1) (drop (i + 1) lengths) in
     ap (ring_puts base size id position) (pieces_from-next addr readable lengths i less)
-    ∙ ap (λ (more : Bool). Put (base + 16 * position.place) (packed_descriptor_bytes (ring_descriptor id position.wrap more (piece_at addr readable (get_or lengths i 0)))) ∷ ring_puts base size id (position_after size position 1) rest)
+    ∙ ap (λ (more : Bool). Put (base + 16 * position.location) (packed_descriptor_bytes (ring_descriptor id position.wrap more (piece_at addr readable (get_or lengths i 0)))) ∷ ring_puts base size id (position_after size position 1) rest)
     (has_more-at (addr + get_or lengths i 0) (readable - 1) lengths i)
 
 -- what these puts cost
-pub ring_puts-cost : (base size id : ℕ) (position : Position) (addr readable : ℕ) (lengths : List ℕ) (i place : ℕ) (bytes : List ℕ) → i < length lengths
-    → place ≡ base + 16 * position.place → length bytes ≡ 16
+pub ring_puts-cost : (base size id : ℕ) (position : Position) (addr readable : ℕ) (lengths : List ℕ) (i location : ℕ) (bytes : List ℕ) → i < length lengths
+    → location ≡ base + 16 * position.location → length bytes ≡ 16
     → cost_of_all (ring_puts base size id position (pieces_from addr readable (drop i lengths)))
-    ≡ pages_touched place (length bytes) + cost_of_all (ring_puts base size id (position_after size position 1) (pieces_from (addr + get_or lengths i 0) (readable - 1) (drop (i + 1) lengths)))
-ring_puts-cost base size id position addr readable lengths i place bytes less e long =
+    ≡ pages_touched location (length bytes) + cost_of_all (ring_puts base size id (position_after size position 1) (pieces_from (addr + get_or lengths i 0) (readable - 1) (drop (i + 1) lengths)))
+ring_puts-cost base size id position addr readable lengths i location bytes less e long =
     rw (e, long) (ap cost_of_all (ring_puts-next base size id position addr readable lengths i less))
 
 -- more pieces follow where there are more lengths
@@ -67,51 +67,51 @@ has_more-by_length addr readable (len ∷ rest) = ap not (sym (ne_eqb (length (l
 pub direct_next : (base size id : ℕ) (position : Position) (addr readable : ℕ) (lengths : List ℕ) → 1 ≤ length lengths
     → head_last (ring_puts base size id position (pieces_from addr readable lengths))
     ≡ ring_puts base size id (position_after size position 1) (pieces_from (addr + get_or lengths 0 0) (readable - 1) (drop 1 lengths))
-    ++ Put (base + 16 * position.place) (packed_descriptor_bytes (ring_descriptor id position.wrap (not (eqb (length (drop 1 lengths)) 0)) (piece_at addr readable (get_or lengths 0 0)))) ∷ []
+    ++ Put (base + 16 * position.location) (packed_descriptor_bytes (ring_descriptor id position.wrap (not (eqb (length (drop 1 lengths)) 0)) (piece_at addr readable (get_or lengths 0 0)))) ∷ []
 direct_next base size id position addr readable [] some = absurd (omega (arith, some))
 direct_next base size id position addr readable (len ∷ rest) some =
-    ap (λ (more : Bool). ring_puts base size id (position_after size position 1) (pieces_from (addr + len) (readable - 1) rest) ++ Put (base + 16 * position.place) (packed_descriptor_bytes (ring_descriptor id position.wrap more (piece_at addr readable len))) ∷ [])
+    ap (λ (more : Bool). ring_puts base size id (position_after size position 1) (pieces_from (addr + len) (readable - 1) rest) ++ Put (base + 16 * position.location) (packed_descriptor_bytes (ring_descriptor id position.wrap more (piece_at addr readable len))) ∷ [])
     (has_more-by_length (addr + len) (readable - 1) rest)
 
 -- what a buffer's own descriptors cost
 pub direct_cost : (base size id : ℕ) (position : Position) (addr readable : ℕ) (lengths : List ℕ) → 1 ≤ length lengths
     → cost_of_all (head_last (ring_puts base size id position (pieces_from addr readable lengths)))
-    ≡ cost_of_all (ring_puts base size id (position_after size position 1) (pieces_from (addr + get_or lengths 0 0) (readable - 1) (drop 1 lengths))) + pages_touched (base + 16 * position.place) 16
+    ≡ cost_of_all (ring_puts base size id (position_after size position 1) (pieces_from (addr + get_or lengths 0 0) (readable - 1) (drop 1 lengths))) + pages_touched (base + 16 * position.location) 16
 direct_cost base size id position addr readable lengths some =
     let others : List AccessValue = ring_puts base size id (position_after size position 1) (pieces_from (addr + get_or lengths 0 0) (readable - 1) (drop 1 lengths)) in
     let head : List ℕ = packed_descriptor_bytes (ring_descriptor id position.wrap (not (eqb (length (drop 1 lengths)) 0)) (piece_at addr readable (get_or lengths 0 0))) in
     ap cost_of_all (direct_next base size id position addr readable lengths some)
-    ∙ cost_of_all-append others (Put (base + 16 * position.place) head ∷ [])
-    ∙ ap (λ (n : ℕ). cost_of_all others + n) (add-zero (pages_touched (base + 16 * position.place) 16))
+    ∙ cost_of_all-append others (Put (base + 16 * position.location) head ∷ [])
+    ∙ ap (λ (n : ℕ). cost_of_all others + n) (add-zero (pages_touched (base + 16 * position.location) 16))
 
 -- what a put of 16 bytes costs
-pub put_cost : (place at : ℕ) (bytes : List ℕ) → place ≡ at → length bytes ≡ 16 → pages_touched place (length bytes) ≡ pages_touched at 16
-put_cost place at bytes e long = rw (e, long) refl
+pub put_cost : (location at : ℕ) (bytes : List ℕ) → location ≡ at → length bytes ≡ 16 → pages_touched location (length bytes) ≡ pages_touched at 16
+put_cost location at bytes e long = rw (e, long) refl
 
 module _ {P : Type 0} (step : P → AccessValue → Answer → List ℕ → List ℕ → P → Type 0) (marking : P → P → Type 0) where
   -- the i-th descriptor is put, and then the others
-  pub ring_puts-does : (base size id : ℕ) (position : Position) (addr readable : ℕ) (lengths : List ℕ) (i place : ℕ) (bytes : List ℕ) (p mid p2 : P) → i < length lengths
-      → place ≡ base + 16 * position.place → bytes ≡ packed_descriptor_bytes (ring_descriptor id position.wrap (ltb (i + 1) (length lengths)) (piece_at addr readable (get_or lengths i 0)))
-      → Does step marking (Put place bytes ∷ []) p mid
+  pub ring_puts-does : (base size id : ℕ) (position : Position) (addr readable : ℕ) (lengths : List ℕ) (i location : ℕ) (bytes : List ℕ) (p mid p2 : P) → i < length lengths
+      → location ≡ base + 16 * position.location → bytes ≡ packed_descriptor_bytes (ring_descriptor id position.wrap (ltb (i + 1) (length lengths)) (piece_at addr readable (get_or lengths i 0)))
+      → Does step marking (Put location bytes ∷ []) p mid
       → Does step marking (ring_puts base size id (position_after size position 1) (pieces_from (addr + get_or lengths i 0) (readable - 1) (drop (i + 1) lengths))) mid p2
       → Does step marking (ring_puts base size id position (pieces_from addr readable (drop i lengths))) p p2
-  ring_puts-does base size id position addr readable lengths i place bytes p mid p2 less e f done more =
+  ring_puts-does base size id position addr readable lengths i location bytes p mid p2 less e f done more =
       let rest : List AccessValue = ring_puts base size id (position_after size position 1) (pieces_from (addr + get_or lengths i 0) (readable - 1) (drop (i + 1) lengths)) in
-      let whole : Put place bytes ∷ rest ≡ ring_puts base size id position (pieces_from addr readable (drop i lengths))
+      let whole : Put location bytes ∷ rest ≡ ring_puts base size id position (pieces_from addr readable (drop i lengths))
       = ap (λ (n : ℕ). Put n bytes ∷ rest) e
-      ∙ ap (λ (ys : List ℕ). Put (base + 16 * position.place) ys ∷ rest) f
+      ∙ ap (λ (ys : List ℕ). Put (base + 16 * position.location) ys ∷ rest) f
       ∙ sym (ring_puts-next base size id position addr readable lengths i less)
       in
-      subst (λ (all : List AccessValue). Does step marking all p p2) whole (does_then step marking (Put place bytes ∷ []) rest p mid p2 done more)
+      subst (λ (all : List AccessValue). Does step marking all p p2) whole (does_then step marking (Put location bytes ∷ []) rest p mid p2 done more)
 
   -- the descriptors after the head are put, and then the head
-  pub direct_does : (base size id : ℕ) (position : Position) (addr readable : ℕ) (lengths : List ℕ) (place : ℕ) (bytes : List ℕ) (p mid p2 : P) → 1 ≤ length lengths
-      → place ≡ base + 16 * position.place → bytes ≡ packed_descriptor_bytes (ring_descriptor id position.wrap (not (eqb (length (drop 1 lengths)) 0)) (piece_at addr readable (get_or lengths 0 0)))
+  pub direct_does : (base size id : ℕ) (position : Position) (addr readable : ℕ) (lengths : List ℕ) (location : ℕ) (bytes : List ℕ) (p mid p2 : P) → 1 ≤ length lengths
+      → location ≡ base + 16 * position.location → bytes ≡ packed_descriptor_bytes (ring_descriptor id position.wrap (not (eqb (length (drop 1 lengths)) 0)) (piece_at addr readable (get_or lengths 0 0)))
       → Does step marking (ring_puts base size id (position_after size position 1) (pieces_from (addr + get_or lengths 0 0) (readable - 1) (drop 1 lengths))) p mid
-      → Does step marking (Put place bytes ∷ []) mid p2
+      → Does step marking (Put location bytes ∷ []) mid p2
       → Does step marking (head_last (ring_puts base size id position (pieces_from addr readable lengths))) p p2
-  direct_does base size id position addr readable lengths place bytes p mid p2 some e f done last =
+  direct_does base size id position addr readable lengths location bytes p mid p2 some e f done last =
       let others : List AccessValue = ring_puts base size id (position_after size position 1) (pieces_from (addr + get_or lengths 0 0) (readable - 1) (drop 1 lengths)) in
       let head : List ℕ = packed_descriptor_bytes (ring_descriptor id position.wrap (not (eqb (length (drop 1 lengths)) 0)) (piece_at addr readable (get_or lengths 0 0))) in
       subst (λ (all : List AccessValue). Does step marking all p p2) (sym (direct_next base size id position addr readable lengths some))
-      (does_then step marking others (Put (base + 16 * position.place) head ∷ []) p mid p2 done (does_put_at step marking _ _ _ _ mid p2 e f last))
+      (does_then step marking others (Put (base + 16 * position.location) head ∷ []) p mid p2 done (does_put_at step marking _ _ _ _ mid p2 e f last))

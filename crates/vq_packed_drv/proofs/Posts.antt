@@ -25,11 +25,11 @@ only_one (n ∷ m ∷ ns) e = absurd (omega (arith, e))
 -- the record once a buffer is posted, from its parts
 pub posted_is : (q : DriverQueue) (b : PostedBuffer) (after : Position) (items : List ℕ) (slots readable : ℕ) → length items ≡ 1 → head_of items ≡ id_for q → slots ≡ slots_of b → readable ≡ length b.readable
     → after ≡ position_after q.cfg.size (available_position q) slots
-    → record q { available = after.place; available_wrap = after.wrap; unreaped = with_buffer (record { tag = b.tag; id = head_of items; descriptors = items; slots = slots; readable = readable }) q.unreaped }
+    → record q { available = after.location; available_wrap = after.wrap; unreaped = with_buffer (record { tag = b.tag; id = head_of items; descriptors = items; slots = slots; readable = readable }) q.unreaped }
     ≡ packed_posted q b
 posted_is q b after items slots readable one e f h k =
     let next : after ≡ position_after q.cfg.size (available_position q) (slots_of b) = k ∙ ap (position_after q.cfg.size (available_position q)) f in
-    let with : Position → Unreaped → DriverQueue = λ p u. record q { available = p.place; available_wrap = p.wrap; unreaped = with_buffer u q.unreaped } in
+    let with : Position → Unreaped → DriverQueue = λ p u. record q { available = p.location; available_wrap = p.wrap; unreaped = with_buffer u q.unreaped } in
     ap (λ (p : Position). with p (record { tag = b.tag; id = head_of items; descriptors = items; slots = slots; readable = readable })) next
     ∙ ap (λ (ns : List ℕ). with (position_after q.cfg.size (available_position q) (slots_of b)) (record { tag = b.tag; id = head_of items; descriptors = ns; slots = slots; readable = readable })) (only_one items one)
     ∙ ap (λ (n : ℕ). with (position_after q.cfg.size (available_position q) (slots_of b)) (record { tag = b.tag; id = n; descriptors = n ∷ []; slots = slots; readable = readable })) e

@@ -6,7 +6,7 @@ use Rattle.vq_common.specs.declared.chain.Piece.{Piece}
 use Rattle.vq_common.specs.declared.packed_descriptor.PackedDescriptor.{PackedDescriptor}
 use Rattle.vq_common.specs.declared.position.Position.{Position}
 use Rattle.vq_common.specs.Descriptor.{flags_of}
-use Rattle.vq_common.specs.Map.{table_place, data_place}
+use Rattle.vt_layout.specs.QueueBlock.{table_address, data_address}
 use Rattle.vq_common.specs.PackedDescriptor.{available_flags, packed_descriptor_bytes}
 use Rattle.vq_common.specs.Piece.{pieces_from}
 use Rattle.vq_common.specs.Position.{position_after}
@@ -15,7 +15,7 @@ use Rattle.vq_posted.specs.Free.{free_descriptors, head_of}
 
 -- the position of the next available descriptor
 abbrev pub available_position : DriverQueue → Position
-available_position q = record { place = q.available; wrap = q.available_wrap }
+available_position q = record { location = q.available; wrap = q.available_wrap }
 
 -- the id that a buffer gets: the lowest free one
 abbrev pub id_for : DriverQueue → ℕ
@@ -23,7 +23,7 @@ id_for q = head_of (free_descriptors q.cfg.size q.unreaped)
 
 -- the pieces of a buffer, one after the other in its data
 abbrev pub pieces_of : ℕ → PostedBuffer → ℕ → List Piece
-pieces_of base b id = pieces_from (data_place base id) b.readable_pieces b.lengths
+pieces_of base b id = pieces_from (data_address base id) b.readable_pieces b.lengths
 
 -- more pieces follow
 abbrev pub has_more : List Piece → Bool
@@ -48,7 +48,7 @@ packed_table_bytes (p ∷ ps) = packed_descriptor_bytes (table_descriptor p) ++ 
 abbrev pub ring_puts : ℕ → ℕ → ℕ → Position → List Piece → List AccessValue
 ring_puts base size id position [] = []
 ring_puts base size id position (p ∷ ps) =
-    Put (base + 16 * position.place) (packed_descriptor_bytes (ring_descriptor id position.wrap (has_more ps) p)) ∷ ring_puts base size id (position_after size position 1) ps
+    Put (base + 16 * position.location) (packed_descriptor_bytes (ring_descriptor id position.wrap (has_more ps) p)) ∷ ring_puts base size id (position_after size position 1) ps
 
 -- the head comes after the others
 abbrev pub head_last : List AccessValue → List AccessValue
@@ -61,12 +61,12 @@ direct_puts q b id = head_last (ring_puts q.base q.cfg.size id (available_positi
 
 -- the descriptor that names the table of a buffer of so many pieces (VIRTIO 1.2, 2.8.7)
 abbrev pub naming_descriptor : ℕ → ℕ → ℕ → Bool → PackedDescriptor
-naming_descriptor base id count wrap = record { addr = table_place base id; len = 16 * count; id = id; flags = 4 + available_flags wrap }
+naming_descriptor base id count wrap = record { addr = table_address base id; len = 16 * count; id = id; flags = 4 + available_flags wrap }
 
 -- the puts of a buffer's table, and of the descriptor that names it
 abbrev pub indirect_puts : DriverQueue → PostedBuffer → ℕ → List AccessValue
 indirect_puts q b id =
-    Put (table_place q.base id) (packed_table_bytes (pieces_of q.base b id))
+    Put (table_address q.base id) (packed_table_bytes (pieces_of q.base b id))
     ∷ Put (q.base + 16 * q.available) (packed_descriptor_bytes (naming_descriptor q.base id (length b.lengths) q.available_wrap))
     ∷ []
 
@@ -76,7 +76,7 @@ chain_puts q b id = if b.indirect then indirect_puts q b id else direct_puts q b
 
 -- the accesses of a post with this id: the data, then the descriptors, the head last
 abbrev pub post_puts : DriverQueue → PostedBuffer → ℕ → List AccessValue
-post_puts q b id = data_puts (data_place q.base id) b.readable ++ chain_puts q b id
+post_puts q b id = data_puts (data_address q.base id) b.readable ++ chain_puts q b id
 
 abbrev pub packed_post_accesses : DriverQueue → PostedBuffer → List AccessValue
 packed_post_accesses q b = post_puts q b (id_for q)
@@ -89,4 +89,4 @@ packed_buffer b id = record { tag = b.tag; id = id; descriptors = id ∷ []; slo
 abbrev pub packed_posted : DriverQueue → PostedBuffer → DriverQueue
 packed_posted q b =
     let after = position_after q.cfg.size (available_position q) (slots_of b) in
-    record q { available = after.place; available_wrap = after.wrap; unreaped = with_buffer (packed_buffer b (id_for q)) q.unreaped }
+    record q { available = after.location; available_wrap = after.wrap; unreaped = with_buffer (packed_buffer b (id_for q)) q.unreaped }

@@ -5,7 +5,7 @@ use Rattle.vt_types.specs.Program.{Program, Do, Mark, End}
 use Rattle.port_access.specs.Accesses.{bytes_or_zeros, mark_unless}
 use Rattle.vq_common.specs.declared.packed_descriptor.PackedDescriptor.{PackedDescriptor}
 use Rattle.vq_common.specs.declared.position.Position.{Position}
-use Rattle.vq_common.specs.Map.{driver_area}
+use Rattle.vt_layout.specs.QueueBlock.{driver_area}
 use Rattle.vq_common.specs.PackedDescriptor.{is_used, packed_descriptor_in}
 use Rattle.vq_common.specs.Position.{position_after, event_word}
 use Rattle.vq_common.specs.Queue.{DriverQueue, Unreaped, ReapedValue, unreaped_with, without}
@@ -13,19 +13,20 @@ use Rattle.vq_posted.specs.Reap.{reap_named}
 
 -- the position of the next used descriptor
 abbrev pub used_position : DriverQueue → Position
-used_position q = record { place = q.used; wrap = q.used_wrap }
+used_position q = record { location = q.used; wrap = q.used_wrap }
 
 -- the record once a buffer is reaped
 abbrev pub packed_reaped : DriverQueue → Unreaped → DriverQueue
 packed_reaped q u =
     let after = position_after q.cfg.size (used_position q) u.slots in
-    record q { used = after.place; used_wrap = after.wrap; unreaped = without u.id q.unreaped }
+    record q { used = after.location; used_wrap = after.wrap; unreaped = without u.id q.unreaped }
 
 -- a signal is asked for at the next used position: its event word, and the flags for one position (VIRTIO 1.2, 2.8.14)
 abbrev pub event_put : DriverQueue → AccessValue
 event_put q = Put (driver_area q.base) (little_bytes 2 (event_word (used_position q)) ++ little_bytes 2 2)
 
--- the buffer that a used descriptor names, where this is an unreaped one with at most 8,192 written bytes
+-- the buffer that a used descriptor names, where this is an unreaped one with no more written bytes than a buffer may
+-- have
 abbrev pub reap_buffer : DriverQueue → PackedDescriptor → Program (Option ReapedValue × DriverQueue)
 reap_buffer q d = reap_named packed_reaped event_put q d.len (unreaped_with d.id q.unreaped)
 

@@ -1,12 +1,14 @@
 //! The descriptors of a buffer's pieces, in the ring and in a table.
 
 ghost use Rattle.std.specs.Prelude.{◌≡◌, ◌+◌, ◌-◌, ◌*◌, ◌<◌, ◌≤◌, ◌^◌, [], length, sum};
+ghost use Rattle.vt_types.specs.Limits.{MOST_PIECES};
 ghost use Rattle.vq_common.specs.Piece.{piece_at, pieces_from};
 ghost use Rattle.vq_common.specs.Position.{position_after};
 ghost use Rattle.vq_packed_drv.specs.Post.{packed_table_bytes, ring_descriptor, table_descriptor};
 
-use arrayvec::ArrayVec;
-use vq_common::{DescriptorFlags, PackedDescriptor, PackedFlags, Piece, Pieces, Position};
+use vq_common::{
+    DescriptorFlags, PackedDescriptor, PackedFlags, Piece, Pieces, Position, TableBytes,
+};
 
 /// The descriptors of a chain that are still to be put: the id that each has, the position of the next one, and the
 /// pieces.
@@ -21,7 +23,7 @@ impl ChainDescriptors {
     /// The next descriptor, on a ring of `size`. Its piece has `len` bytes, and it has NEXT where another descriptor
     /// follows.
     pub fn next_descriptor(&mut self, size: u16, len: u16, follows: bool) -> PackedDescriptor
-        requires place { self.old.position.place < size }
+        requires location { self.old.position.location < size }
         requires fits { self.old.pieces.addr + len < 2 ^ 64 }
         ensures descriptor { result ≡ ring_descriptor self.old.id self.old.position.wrap follows (piece_at self.old.pieces.addr self.old.pieces.readable len) }
         ensures id { self.new.id ≡ self.old.id }
@@ -55,9 +57,9 @@ fn describe_in_table(piece: Piece) -> PackedDescriptor
 }
 
 /// Adds the table of pieces of these lengths.
-pub(crate) fn add_table(table: &mut ArrayVec<u8, 128>, pieces: Pieces, lengths: &[u16])
+pub(crate) fn add_table(table: &mut TableBytes, pieces: Pieces, lengths: &[u16])
     requires empty { table.old.items ≡ [] }
-    requires few { length lengths.now ≤ 8 }
+    requires few { length lengths.now ≤ MOST_PIECES }
     requires fits { pieces.addr + sum lengths.now < 2 ^ 64 }
     ensures bytes { table.new.items ≡ packed_table_bytes (pieces_from pieces.addr pieces.readable lengths.now) }
     ensures long { length table.new.items ≡ 16 * length lengths.now }

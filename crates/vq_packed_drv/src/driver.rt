@@ -12,7 +12,7 @@ use std::alloc::Global;
 use std::marker::Model;
 use vq_common::{DriverEnd, Full, PackedDescriptor, Reaped, RingCfg, slots_of};
 use vq_posted::{Posted, PostedBuffers, head};
-use vt_types::{Memory, Port, PostBuf, Room};
+use vt_types::{LONGEST_BUFFER, Memory, Port, PostBuf, Room};
 
 /// A driver's end of a packed virtqueue (VIRTIO 1.2, 2.8).
 ///
@@ -37,7 +37,7 @@ impl Model for PackedDriver {
 
 impl PackedDriver {
     /// Reaps the buffer that a used descriptor names. None where there is no such buffer, or where the descriptor's length
-    /// is above 8,192.
+    /// is above `LONGEST_BUFFER`.
     fn reap_buffer<P: Port>(
         &mut self,
         port: &mut P,
@@ -51,7 +51,7 @@ impl PackedDriver {
         ensures greatest { self.new.greatest ≡ self.old.greatest }
     {
         match self.posted.find(u32::from(descriptor.id)) {
-            Some(found) if descriptor.len <= 8192 => {
+            Some(found) if descriptor.len <= LONGEST_BUFFER as u32 => {
                 let id = descriptor.id;
                 self.ring
                     .get_data(port, id, found.readable, descriptor.len as u16, room);

@@ -10,10 +10,9 @@ ghost use Rattle.vq_packed_drv.specs.Post.{chain_puts, direct_puts, indirect_put
 
 use crate::descriptors::{ChainDescriptors, add_table};
 use crate::ring::Ring;
-use arrayvec::ArrayVec;
 use port_access::{put, put_data};
-use vq_common::map::{TABLE_LEN, TABLES};
-use vq_common::{PackedDescriptor, PackedFlags, Pieces};
+use vq_common::{PackedDescriptor, PackedFlags, Pieces, TableBytes};
+use vt_layout::queue_block::{TABLE_LEN, TABLES};
 use vt_types::{Port, PostBuf, Room};
 
 impl Ring {
@@ -25,7 +24,7 @@ impl Ring {
         lengths: &[u16],
         room: &mut Room,
     )
-        requires place { chain.position.place < self.now.cfg.size }
+        requires location { chain.position.location < self.now.cfg.size }
         requires fits { chain.pieces.addr + sum lengths.now < 2 ^ 64 }
         requires credit { cost_of_all (ring_puts self.now.base self.now.cfg.size chain.id chain.position (pieces_from chain.pieces.addr chain.pieces.readable lengths.now)) ≤ P.credit port.old }
         ensures does { Does P.step P.marking (ring_puts self.now.base self.now.cfg.size chain.id chain.position (pieces_from chain.pieces.addr chain.pieces.readable lengths.now)) port.old port.new }
@@ -33,15 +32,15 @@ impl Ring {
     {
         let mut chain = chain;
         'pieces: for (i, len) in lengths.iter().enumerate() {
-            let place = self.place(chain.position.place);
+            let location = self.location(chain.position.location);
             let descriptor = chain.next_descriptor(self.cfg.size, *len, i + 1 < lengths.len());
-            put(port, place, &descriptor.to_bytes(), room);
+            put(port, location, &descriptor.to_bytes(), room);
         }
     }
 
     /// Puts a buffer's own descriptors: those after the head in order, and then the head.
     fn put_direct<P: Port>(&self, port: &mut P, buf: &PostBuf, id: u16, room: &mut Room)
-        requires place { self.now.available.place < self.now.cfg.size }
+        requires location { self.now.available.location < self.now.cfg.size }
         requires postable { IsPostable (posted_buffer buf.now) }
         requires credit { cost_of_all (direct_puts (ring_queue self.now) (posted_buffer buf.now) id) ≤ P.credit port.old }
         ensures does { Does P.step P.marking (direct_puts (ring_queue self.now) (posted_buffer buf.now) id) port.old port.new }
@@ -62,7 +61,7 @@ impl Ring {
         self.put_descriptors(port, chain, rest, room);
         put(
             port,
-            self.place(self.available.place),
+            self.location(self.available.location),
             &head.to_bytes(),
             room,
         );
@@ -79,20 +78,20 @@ impl Ring {
             addr: self.data(id),
             readable: buf.nread,
         };
-        let mut table = ArrayVec::new();
+        let mut table = TableBytes::new();
         add_table(&mut table, pieces, buf.cuts.as_slice());
-        let place = self.base + TABLES + TABLE_LEN * u64::from(id);
-        put(port, place, table.as_slice(), room);
+        let location = self.base + TABLES + TABLE_LEN * u64::from(id);
+        put(port, location, table.as_slice(), room);
         let available = PackedFlags::available(self.available.wrap);
         let named = PackedDescriptor {
-            addr: place,
+            addr: location,
             len: table.len() as u32,
             id,
             flags: PackedFlags::INDIRECT.0 + available.0,
         };
         put(
             port,
-            self.place(self.available.place),
+            self.location(self.available.location),
             &named.to_bytes(),
             room,
         );
@@ -100,7 +99,7 @@ impl Ring {
 
     /// Puts a buffer's descriptors.
     fn put_chain<P: Port>(&self, port: &mut P, buf: &PostBuf, id: u16, room: &mut Room)
-        requires place { self.now.available.place < self.now.cfg.size }
+        requires location { self.now.available.location < self.now.cfg.size }
         requires postable { IsPostable (posted_buffer buf.now) }
         requires credit { cost_of_all (chain_puts (ring_queue self.now) (posted_buffer buf.now) id) ≤ P.credit port.old }
         ensures does { Does P.step P.marking (chain_puts (ring_queue self.now) (posted_buffer buf.now) id) port.old port.new }
@@ -115,7 +114,7 @@ impl Ring {
 
     /// The accesses of a post with this id: the data, then the descriptors, the head last.
     pub(crate) fn put_buffer<P: Port>(&self, port: &mut P, buf: &PostBuf, id: u16, room: &mut Room)
-        requires place { self.now.available.place < self.now.cfg.size }
+        requires location { self.now.available.location < self.now.cfg.size }
         requires postable { IsPostable (posted_buffer buf.now) }
         requires credit { cost_of_all (post_puts (ring_queue self.now) (posted_buffer buf.now) id) ≤ P.credit port.old }
         ensures does { Does P.step P.marking (post_puts (ring_queue self.now) (posted_buffer buf.now) id) port.old port.new }

@@ -1,11 +1,13 @@
 //! A packed ring in its queue block.
 
 ghost use Rattle.std.specs.Prelude.{◌≡◌, ◌+◌, ◌*◌, ◌%◌, ◌<◌, ◌≤◌, ◌^◌, IsTrue, true};
-ghost use Rattle.vq_common.specs.Map.{data_place};
-ghost use Rattle.vq_common.specs.Queue.{IsPlaced, is_ring_size};
+ghost use Rattle.vt_types.specs.Device.{BLOCK_LEN, MOST_BLOCKS};
+ghost use Rattle.vt_types.specs.Limits.{GUEST_PAGE};
+ghost use Rattle.vt_layout.specs.QueueBlock.{data_address};
+ghost use Rattle.vq_common.specs.Queue.{GREATEST_RING, IsInBlock, is_ring_size};
 
-use vq_common::map::{DATA, DATA_LEN};
 use vq_common::{Position, RingCfg};
+use vt_layout::queue_block::{DATA, DATA_LEN};
 
 /// A packed ring in its queue block, and the positions of the next available and of the next used descriptor.
 #[derive(Clone, Copy)]
@@ -14,9 +16,9 @@ pub(crate) struct Ring {
     pub base: u64,
     pub available: Position,
     pub used: Position,
-    ghost small: { cfg.size ≤ 1024 },
-    ghost low: { base ≤ 0x500_0000 },
-    ghost page: { base % 4096 ≡ 0 },
+    ghost small: { cfg.size ≤ GREATEST_RING },
+    ghost low: { base ≤ MOST_BLOCKS * BLOCK_LEN },
+    ghost page: { base % GUEST_PAGE ≡ 0 },
 }
 
 impl Ring {
@@ -42,11 +44,11 @@ impl Ring {
     /// A ring that begins.
     pub fn new(cfg: &RingCfg, base: u64) -> Ring
         requires size { IsTrue (is_ring_size cfg.now.size) }
-        requires placed { IsPlaced cfg.now base }
+        requires in_block { IsInBlock cfg.now base }
         ensures cfg { result.cfg ≡ cfg.now }
         ensures base { result.base ≡ base }
-        ensures available { result.available ≡ record { place = 0; wrap = true } }
-        ensures used { result.used ≡ record { place = 0; wrap = true } }
+        ensures available { result.available ≡ record { location = 0; wrap = true } }
+        ensures used { result.used ≡ record { location = 0; wrap = true } }
     {
         Ring {
             cfg: *cfg,
@@ -56,16 +58,16 @@ impl Ring {
         }
     }
 
-    /// The address of a place of the ring.
-    pub fn place(&self, place: u16) -> u64
-        ensures { result ≡ self.now.base + 16 * place }
+    /// The address of a location of the ring.
+    pub fn location(&self, location: u16) -> u64
+        ensures { result ≡ self.now.base + 16 * location }
     {
-        self.base + 16 * u64::from(place)
+        self.base + 16 * u64::from(location)
     }
 
     /// Where the data of the buffer with this id lies.
     pub fn data(&self, id: u16) -> u64
-        ensures value { result ≡ data_place self.now.base id }
+        ensures value { result ≡ data_address self.now.base id }
         ensures low { result < 2 ^ 32 }
     {
         self.base + DATA + DATA_LEN * u64::from(id)

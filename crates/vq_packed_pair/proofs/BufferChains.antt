@@ -1,5 +1,5 @@
 -- The descriptors of a posted buffer, direct or in a table, make its chain.
-use Rattle.std.proofs.Common.{◌≡◌, ℕ, suc, ◌+◌, ◌*◌, ◌^◌, ◌<◌, ◌≤◌, List, [], ◌∷◌, length, true, false, not, IsTrue, Some, None, inl, inr, refl, sym, ◌∙◌, ap, subst, arith}
+use Rattle.std.proofs.Common.{◌≡◌, ℕ, ◌+◌, ◌*◌, ◌<◌, ◌≤◌, List, [], ◌∷◌, length, true, false, not, IsTrue, Some, None, inl, inr, refl, sym, ◌∙◌, ap, subst, arith}
 use Rattle.std.specs.Prelude.{◌&&◌, All, sum}
 use Rattle.std.proofs.lemmas.Bool.{and_from, cases_Bool, cond-true, cond-false}
 use Rattle.std.proofs.lemmas.List.Elements.{All-nil, All-cons}
@@ -12,7 +12,7 @@ use Rattle.vq_common.specs.declared.packed_descriptor.PackedDescriptor.{PackedDe
 use Rattle.vq_common.specs.declared.position.Position.{Position}
 use Rattle.vq_common.specs.Buffer.{IsPostable}
 use Rattle.vq_common.specs.Descriptor.{has_next, is_indirect}
-use Rattle.vq_common.specs.Map.{data_place, table_place}
+use Rattle.vt_layout.specs.QueueBlock.{data_address, table_address}
 use Rattle.vq_common.specs.PackedDescriptor.{is_available, packed_descriptor_at, packed_descriptor_bytes}
 use Rattle.vq_common.specs.Queue.{DriverQueue, slots_of}
 use Rattle.vq_common.specs.Table.{table_pieces}
@@ -41,18 +41,18 @@ pub record IsChain (mem : List ℕ) (q : DriverQueue) (b : PostedBuffer) (id : �
   pub last : last_id descriptors ≡ id
 
 -- the block of a queue lies low
-base_low : (q : DriverQueue) (memory : ℕ) → IsInMemory memory q → q.base ≤ 0x5000000
+base_low : (q : DriverQueue) (memory : ℕ) → IsInMemory memory q.cfg q.base → q.base ≤ 0x5000000
 base_low q memory ring =
-    let n : ℕ = ring.placed.block.number in
-    let known : n < 5 = ring.placed.block.known in
-    let place : q.base ≡ (n + 1) * 0x1000000 = ring.placed.block.place in
+    let n : ℕ = ring.in_block.block.number in
+    let known : n < 5 = ring.in_block.block.known in
+    let location : q.base ≡ (n + 1) * 0x1000000 = ring.in_block.block.location in
     omega arith
 
 -- what a post is made of: a ring in memory whose next available position is one of its own, a buffer that may be posted
 -- there, and an id below the size
 pub record CanPost (memory : ℕ) (q : DriverQueue) (b : PostedBuffer) (id : ℕ) : Type 0 where
-  pub ring : IsInMemory memory q
-  pub place : q.available < q.cfg.size
+  pub ring : IsInMemory memory q.cfg q.base
+  pub location : q.available < q.cfg.size
   pub postable : IsPostable b
   pub room : slots_of b ≤ q.cfg.size
   pub low : id < q.cfg.size
@@ -70,13 +70,13 @@ module _ (mem : List ℕ) (q : DriverQueue) (b : PostedBuffer) (id : ℕ) (can :
   inside = can.ring.inside
 
   many : length ps ≡ length b.lengths
-  many = length-pieces_from (data_place q.base id) b.readable_pieces b.lengths
+  many = length-pieces_from (data_address q.base id) b.readable_pieces b.lengths
 
   each : All FitsDescriptor ps
   each =
       let total : sum b.lengths ≤ 8192 = can.postable.total in
       let low : id < q.cfg.size = can.low in
-      posted_fit (data_place q.base id) b can.postable (omega (arith, base_low q (length mem) can.ring, size_low))
+      posted_fit (data_address q.base id) b can.postable (omega (arith, base_low q (length mem) can.ring, size_low))
 
   some : 1 ≤ length ps
   some = let least : 1 ≤ length b.lengths = can.postable.some in omega (arith, many)
@@ -94,8 +94,8 @@ module _ (mem : List ℕ) (q : DriverQueue) (b : PostedBuffer) (id : ℕ) (can :
       let fits : length ps ≤ q.cfg.size = omega (arith, many) in
       let after : List ℕ = written (direct_puts q b id) mem in
       let ds : List PackedDescriptor = row_of q.cfg.size id position ps in
-      let stand : IsRow after q.base q.cfg.size q.available ds = head_last_stand q.base q.cfg.size id position ps mem can.place fits (omega (arith, size_low, inside)) (omega (arith, size_low)) each in
-      let row : IsRow after q.cfg.desc q.cfg.size q.available ds = subst (λ (a : ℕ). IsRow after a q.cfg.size q.available ds) (sym can.ring.placed.desc) stand in
+      let stand : IsRow after q.base q.cfg.size q.available ds = head_last_stand q.base q.cfg.size id position ps mem can.location fits (omega (arith, size_low, inside)) (omega (arith, size_low)) each in
+      let row : IsRow after q.cfg.desc q.cfg.size q.available ds = subst (λ (a : ℕ). IsRow after a q.cfg.size q.available ds) (sym can.ring.in_block.desc) stand in
       record {
         available = row_is_available after q.cfg.desc q.cfg.size id position ps some row;
         descriptors = ds;
@@ -113,7 +113,7 @@ module _ (mem : List ℕ) (q : DriverQueue) (b : PostedBuffer) (id : ℕ) (can :
   bytes = packed_table_bytes ps
 
   abbrev with_table : List ℕ
-  with_table = put_at mem (table_place q.base id) bytes
+  with_table = put_at mem (table_address q.base id) bytes
 
   abbrev with_head : List ℕ
   with_head = put_at with_table (q.base + 16 * q.available) (packed_descriptor_bytes named)
@@ -121,19 +121,19 @@ module _ (mem : List ℕ) (q : DriverQueue) (b : PostedBuffer) (id : ℕ) (can :
   bytes_few : length bytes ≤ 128
   bytes_few = omega (arith, few, length-packed_table_bytes ps)
 
-  table_inside : table_place q.base id + length bytes ≤ length mem
+  table_inside : table_address q.base id + length bytes ≤ length mem
   table_inside = let low : id < q.cfg.size = can.low in omega (arith, inside, size_low, bytes_few)
 
   same_length : length with_table ≡ length mem
-  same_length = length-put_at mem (table_place q.base id) bytes table_inside
+  same_length = length-put_at mem (table_address q.base id) bytes table_inside
 
   head_inside : q.base + 16 * q.available + 16 ≤ length with_table
-  head_inside = let place : q.available < q.cfg.size = can.place in omega (arith, inside, size_low, same_length)
+  head_inside = let location : q.available < q.cfg.size = can.location in omega (arith, inside, size_low, same_length)
 
   indirect_written : written (indirect_puts q b id) mem ≡ with_head
   indirect_written =
       let sixteen : length (packed_descriptor_bytes named) ≡ 16 = refl in
-      written_put (table_place q.base id) bytes (Put (q.base + 16 * q.available) (packed_descriptor_bytes named) ∷ []) mem table_inside
+      written_put (table_address q.base id) bytes (Put (q.base + 16 * q.available) (packed_descriptor_bytes named) ∷ []) mem table_inside
       ∙ written_put (q.base + 16 * q.available) (packed_descriptor_bytes named) [] with_table (omega (arith, head_inside))
 
   -- the naming descriptor is read there
@@ -147,13 +147,13 @@ module _ (mem : List ℕ) (q : DriverQueue) (b : PostedBuffer) (id : ℕ) (can :
       packed_descriptor_at-put with_table q.base q.available named fits head_inside
 
   -- and so are the bytes of the table
-  table_read : part with_head (table_place q.base id) (16 * length ps) ≡ bytes
+  table_read : part with_head (table_address q.base id) (16 * length ps) ≡ bytes
   table_read =
       let sixteen : length (packed_descriptor_bytes named) ≡ 16 = refl in
-      let place : q.available < q.cfg.size = can.place in
+      let location : q.available < q.cfg.size = can.location in
       let long : length bytes ≡ 16 * length ps = length-packed_table_bytes ps in
-      part-put_at_apart with_table (q.base + 16 * q.available) (packed_descriptor_bytes named) (table_place q.base id) (16 * length ps) (omega (arith, head_inside)) (inl (omega (arith, size_low)))
-      ∙ part-put_at_same_length mem (table_place q.base id) bytes (16 * length ps) long (omega (arith, table_inside))
+      part-put_at_apart with_table (q.base + 16 * q.available) (packed_descriptor_bytes named) (table_address q.base id) (16 * length ps) (omega (arith, head_inside)) (inl (omega (arith, size_low)))
+      ∙ part-put_at_same_length mem (table_address q.base id) bytes (16 * length ps) long (omega (arith, table_inside))
 
   -- so these puts leave the chain
   indirect_chain : b.indirect ≡ true → IsChain with_head q b id
@@ -161,10 +161,10 @@ module _ (mem : List ℕ) (q : DriverQueue) (b : PostedBuffer) (id : ℕ) (can :
       let says : NamesTable named.flags q.available_wrap = names_table q.available_wrap in
       let low : id < q.cfg.size = can.low in
       let long : length with_head ≡ length mem = length-put_at with_table (q.base + 16 * q.available) (packed_descriptor_bytes named) (omega (arith, head_inside)) ∙ same_length in
-      let read : packed_descriptor_at with_head q.cfg.desc q.available ≡ named = ap (λ (a : ℕ). packed_descriptor_at with_head a q.available) can.ring.placed.desc ∙ named_read in
+      let read : packed_descriptor_at with_head q.cfg.desc q.available ≡ named = ap (λ (a : ℕ). packed_descriptor_at with_head a q.available) can.ring.in_block.desc ∙ named_read in
       let fits : length b.lengths ≤ q.cfg.size = can.table indirect in
-      let found : table_pieces with_head (table_place q.base id) (16 * length ps) q.cfg.size false ≡ Some ps
-      = table_is_pieces with_head (table_place q.base id) q.cfg.size ps some few (omega (arith, many)) (omega (arith, inside, size_low, few, long)) each table_read
+      let found : table_pieces with_head (table_address q.base id) (16 * length ps) q.cfg.size false ≡ Some ps
+      = table_is_pieces with_head (table_address q.base id) q.cfg.size ps some few (omega (arith, many)) (omega (arith, inside, size_low, few, long)) each table_read
       in
       let size : 16 * length b.lengths ≡ 16 * length ps = omega (arith, many) in
       record {
@@ -175,7 +175,7 @@ module _ (mem : List ℕ) (q : DriverQueue) (b : PostedBuffer) (id : ℕ) (can :
             cond-true (is_indirect named.flags) (pieces_of_table with_head q.cfg named) (direct_pieces (named ∷ [])) says.indirect
             ∙ cond-true (q.cfg.indirect && not (has_next named.flags)) (table_pieces with_head named.addr named.len q.cfg.size false) None
             (and_from q.cfg.indirect (not (has_next named.flags)) (can.feature indirect) (ap not says.alone))
-            ∙ ap (λ (n : ℕ). table_pieces with_head (table_place q.base id) n q.cfg.size false) size
+            ∙ ap (λ (n : ℕ). table_pieces with_head (table_address q.base id) n q.cfg.size false) size
             ∙ found;
         slots = sym (cond-true b.indirect 1 (length b.lengths) indirect);
         last = refl;
@@ -197,11 +197,11 @@ module _ (mem : List ℕ) (q : DriverQueue) (b : PostedBuffer) (id : ℕ) (can :
   indirect_within =
       let P = IsPutWithin q.base 0x400000 in
       let low : id < q.cfg.size = can.low in
-      let place : q.available < q.cfg.size = can.place in
+      let location : q.available < q.cfg.size = can.location in
       let head : List ℕ = packed_descriptor_bytes named in
       let sixteen : length head ≡ 16 = refl in
-      All-cons P (Put (table_place q.base id) bytes) (Put (q.base + 16 * q.available) head ∷ [])
-      (record { addr = table_place q.base id; bytes = bytes; is = refl; starts = omega arith; ends = omega (arith, bytes_few, size_low) })
+      All-cons P (Put (table_address q.base id) bytes) (Put (q.base + 16 * q.available) head ∷ [])
+      (record { addr = table_address q.base id; bytes = bytes; is = refl; starts = omega arith; ends = omega (arith, bytes_few, size_low) })
       (All-cons P (Put (q.base + 16 * q.available) head) [] (record { addr = q.base + 16 * q.available; bytes = head; is = refl; starts = omega arith; ends = omega (arith, size_low) }) (All-nil P))
 
   pub chain_within : All (IsPutWithin q.base 0x400000) (chain_puts q b id)
@@ -214,5 +214,5 @@ module _ (mem : List ℕ) (q : DriverQueue) (b : PostedBuffer) (id : ℕ) (can :
             let room : slots_of b ≤ q.cfg.size = can.room in
             subst (All P) (sym (cond-false b.indirect (indirect_puts q b id) (direct_puts q b id) direct))
             (IsPutWithin-wider q.base (16 * q.cfg.size) q.base 0x400000 (direct_puts q b id) (omega arith) (omega (arith, size_low))
-            (head_last_within q.base q.cfg.size id (available_position q) ps can.place (omega (arith, many))))
+            (head_last_within q.base q.cfg.size id (available_position q) ps can.location (omega (arith, many))))
       ]

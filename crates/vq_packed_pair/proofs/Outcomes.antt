@@ -2,7 +2,6 @@
 use Rattle.std.proofs.Common.{◌≡◌, ℕ, ◌<◌, ◌≤◌, List, Bool, true, false, Result, Ok, Err, inl, inr, sym, refl, ◌∙◌, ap, subst}
 use Rattle.std.specs.Prelude.{OnOk, is_ok}
 use Rattle.std.proofs.lemmas.Bool.{cases_lt, false≢true, le-ltb, lt-ltb}
-use Rattle.vt_types.specs.declared.access.Answer.{Answer}
 use Rattle.vt_types.specs.Access.{AccessValue}
 use Rattle.vt_types.specs.Operation.{PostedBuffer}
 use Rattle.vt_types.specs.Program.{Mark, End, run}

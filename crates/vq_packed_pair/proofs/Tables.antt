@@ -1,12 +1,11 @@
 -- An indirect table of a packed ring is read as its pieces.
-use Rattle.std.proofs.Common.{◌≡◌, ℕ, ◌+◌, ◌*◌, ◌/◌, ◌%◌, ◌^◌, ◌<◌, ◌≤◌, List, [], ◌∷◌, ◌++◌, length, eqb, Bool, IsTrue, Some, None, false, refl, sym, ◌∙◌, ap, arith}
-use Rattle.std.specs.Prelude.{◌&&◌, All, nat_le, nat_lt}
+use Rattle.std.proofs.Common.{◌≡◌, ℕ, ◌+◌, ◌*◌, ◌/◌, ◌%◌, ◌≤◌, List, [], ◌∷◌, ◌++◌, length, eqb, Bool, IsTrue, Some, None, false, refl, sym, ◌∙◌, ap, arith}
+use Rattle.std.specs.Prelude.{All, nat_le, nat_lt}
 use Rattle.std.proofs.lemmas.Bool.{and_from, cond-true, eq-eqb, le-leb, lt-ltb}
 use Rattle.std.proofs.lemmas.List.Elements.{All-head, All-tail}
 use Rattle.guest_mem.specs.Memory.{part}
 use Rattle.guest_mem.proofs.Parts.{part-part, part-append_left, part-append_right, part_all}
 use Rattle.vq_common.specs.declared.chain.Piece.{Piece}
-use Rattle.vq_common.specs.declared.packed_descriptor.PackedDescriptor.{PackedDescriptor}
 use Rattle.vq_common.specs.PackedDescriptor.{packed_descriptor_bytes, packed_descriptor_in, packed_piece_of}
 use Rattle.vq_common.specs.Table.{is_table, packed_table, table_pieces}
 use Rattle.vq_common.proofs.DescriptorLaws.{packed_descriptor_in-packed_descriptor_bytes}

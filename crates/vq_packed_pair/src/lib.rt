@@ -25,7 +25,7 @@ mod tests;
 /// exceed the free ones, and changes nothing. Else, once the chains before it are taken, the buffer is the chain that
 /// the ring shows next: its readable bytes, its room and its slots (VIRTIO 1.2, 2.8.6, 2.8.7 and 2.8.21).
 pub fn post(driver: &mut PackedDriver, port: &mut MemoryPort, buf: &PostBuf) -> Result<(), Full>
-    requires ring { IsInMemory (length port.old.memory.bytes) driver.old.queue }
+    requires ring { IsInMemory (length port.old.memory.bytes) driver.old.queue.cfg driver.old.queue.base }
     requires postable { IsPostable (posted_buffer buf.now) }
     requires tag { holds_tag buf.now.tag driver.old.queue.unreaped ≡ false }
     requires table { IsTrue buf.now.indirect → length buf.now.cuts.items ≤ driver.old.queue.cfg.size }

@@ -3,8 +3,8 @@
 ghost use Rattle.std.specs.Prelude.{◌≡◌, ◌≤◌, ◌^◌, IfOk, true, length};
 ghost use Rattle.vt_types.specs.Operation.{posted_buffer};
 ghost use Rattle.vq_common.specs.Buffer.{IsPostable};
-ghost use Rattle.vq_common.specs.Map.{driver_area, device_area};
-ghost use Rattle.vq_common.specs.Queue.{IsPlaced};
+ghost use Rattle.vt_layout.specs.QueueBlock.{driver_area, device_area};
+ghost use Rattle.vq_common.specs.Queue.{IsInBlock};
 ghost use Rattle.vq_packed_pair.specs.declared.tests.TheConstants.{BASE};
 
 use crate::post;
@@ -14,10 +14,10 @@ use memory_port::MemoryPort;
 use std::alloc::Global;
 use std::process::Abort;
 use std::test::Fail;
-use vq_common::map::{DEVICE_AREA, DRIVER_AREA};
 use vq_common::{Chain, DeviceEnd, DriverEnd, Reaped, RingCfg, Take};
 use vq_packed_dev::PackedDevice;
 use vq_packed_drv::PackedDriver;
+use vt_layout::queue_block::{DEVICE_AREA, DRIVER_AREA};
 use vt_types::{Bytes, Memory, PostBuf, Room};
 
 /// Where the queue block begins.
@@ -30,7 +30,7 @@ const PAGES: u32 = 23;
 fn ring() -> RingCfg
     ensures size { result.size ≡ 4 }
     ensures indirect { result.indirect ≡ true }
-    ensures placed { IsPlaced result BASE }
+    ensures in_block { IsInBlock result BASE }
 {
     RingCfg {
         desc: BASE,

@@ -220,6 +220,27 @@ slots_left id u us e =
     let (front, back, l) = leaves id u us e in
     omega (arith, ap slots_of_all l.all, ap slots_of_all l.others, slots_of_all-append front (u ∷ back), slots_of_all-append front back)
 
+-- what is in use is used by a buffer that is found, or by the others
+pub in_use_found : (id : ℕ) (u : Unreaped) (us : List Unreaped) → unreaped_with id us ≡ Some u → (n : ℕ)
+    → is_in n (descriptors_in_use us) ≡ (is_in n u.descriptors || is_in n (descriptors_in_use (without id us)))
+in_use_found id u us e n =
+    let (front, back, l) = leaves id u us e in
+    ap (λ (ws : List Unreaped). is_in n (descriptors_in_use ws)) l.all
+    ∙ ap (is_in n) (in_use_between front u back)
+    ∙ is_in_between n (descriptors_in_use front) u.descriptors (descriptors_in_use back)
+    ∙ ap (λ (ns : List ℕ). is_in n u.descriptors || is_in n ns) (sym (ap descriptors_in_use l.others ∙ descriptors_in_use-append front back))
+
+-- a tag is held by that buffer, or by the others
+pub tag_found : (id : ℕ) (u : Unreaped) (us : List Unreaped) → unreaped_with id us ≡ Some u → (tag : ℕ) → holds_tag tag us ≡ (eqb u.tag tag || holds_tag tag (without id us))
+tag_found id u us e tag =
+    let (front, back, l) = leaves id u us e in
+    let others : tags_of (without id us) ≡ tags_of front ++ tags_of back = ap tags_of l.others ∙ map-append (λ (v : Unreaped). v.tag) front back in
+    holds_tag-is_in tag us
+    ∙ ap (is_in tag) (ap tags_of l.all ∙ map-append (λ (v : Unreaped). v.tag) front (u ∷ back))
+    ∙ is_in_between tag (tags_of front) (u.tag ∷ []) (tags_of back)
+    ∙ ap (λ (b : Bool). b || is_in tag (tags_of front ++ tags_of back)) (or_off (eqb u.tag tag))
+    ∙ ap (λ (b : Bool). eqb u.tag tag || b) (sym (holds_tag-is_in tag (without id us) ∙ ap (is_in tag) others))
+
 if_same : (a b : Bool) → (a ≡ true → b ≡ false) → b ≡ (not a && (a || b))
 if_same true b h = h refl
 if_same false b h = refl

@@ -30,20 +30,20 @@ or_moved true b c h = sym (and_true b ∙ h refl)
 or_moved false b c h = refl
 
 -- the members of the set are the free descriptors
-pub members_are_free : (size free : ℕ) (words tags : List ℕ) (places : List (Option Posted)) → IsKept size free words tags places → members words ≡ free_descriptors size (entries 0 places)
-members_are_free size free words tags places k =
-    let us : List Unreaped = entries 0 places in
-    let fits : size ≤ length places = k.fits in
-    let room : length places ≤ 64 * length words = k.room in
+pub members_are_free : (size free : ℕ) (words tags : List ℕ) (locations : List (Option Posted)) → IsKept size free words tags locations → members words ≡ free_descriptors size (entries 0 locations)
+members_are_free size free words tags locations k =
+    let us : List Unreaped = entries 0 locations in
+    let fits : size ≤ length locations = k.fits in
+    let room : length locations ≤ 64 * length words = k.room in
     let all : size + (64 * length words - size) ≡ 64 * length words = omega arith in
     filter_agree (is_member words) (is_free size us) k.descriptors (numbers 0 (64 * length words))
     ∙ ap (λ (n : ℕ). filter (is_free size us) (numbers 0 n)) (sym all)
     ∙ filter_below (λ n. not (is_in n (descriptors_in_use us))) size 0 size (64 * length words - size) (omega arith)
 
 -- no buffers yet
-pub kept_empty : (size : ℕ) (words tags : List ℕ) (places : List (Option Posted)) → entries 0 places ≡ [] → size ≤ length places → length places < 2 ^ 16 → length places ≤ 64 * length words → length tags ≡ 1024
-    → ((n : ℕ) → is_member words n ≡ ltb n size) → ((tag : ℕ) → is_member tags tag ≡ false) → IsKept size size words tags places
-kept_empty size words tags places none fits bound room room_for_tags all free_tags =
+pub kept_empty : (size : ℕ) (words tags : List ℕ) (locations : List (Option Posted)) → entries 0 locations ≡ [] → size ≤ length locations → length locations < 2 ^ 16 → length locations ≤ 64 * length words → length tags ≡ 1024
+    → ((n : ℕ) → is_member words n ≡ ltb n size) → ((tag : ℕ) → is_member tags tag ≡ false) → IsKept size size words tags locations
+kept_empty size words tags locations none fits bound room room_for_tags all free_tags =
     let order : IsInOrder size [] = record { each = All-nil IsBuffer; below = All-nil (λ n. n < size); distinct = refl; slots = omega arith; ids = refl; tags = refl } in
     record {
       order = subst (IsInOrder size) (sym none) order;
@@ -77,41 +77,41 @@ addable_head size us p a =
 pub addable_below : (size : ℕ) (us : List Unreaped) (p : Posted) → IsAddable size us p → All (λ n. n < size) p.descriptors.items
 addable_below size us p a = subst (λ (ns : List ℕ). All (λ n. n < size) ns) (sym a.lowest) (lowest_free-below size (length p.descriptors.items) us)
 
--- its place is free
-addable_place : (size free : ℕ) (words tags : List ℕ) (places : List (Option Posted)) (p : Posted) (place : ℕ) → IsKept size free words tags places → IsAddable size (entries 0 places) p
-    → place ≡ head_of p.descriptors.items → get_or places place None ≡ None
-addable_place size free words tags places p place k a e =
-    let us : List Unreaped = entries 0 places in
-    let out : is_in place (descriptors_in_use us) ≡ false
-    = lowest_free-apart size (length p.descriptors.items) us place
-    (subst (λ (ns : List ℕ). is_in place ns ≡ true) a.lowest (ap (λ (n : ℕ). is_in n p.descriptors.items) e ∙ head_is_in p.descriptors.items a.some))
+-- its location is free
+addable_location : (size free : ℕ) (words tags : List ℕ) (locations : List (Option Posted)) (p : Posted) (location : ℕ) → IsKept size free words tags locations → IsAddable size (entries 0 locations) p
+    → location ≡ head_of p.descriptors.items → get_or locations location None ≡ None
+addable_location size free words tags locations p location k a e =
+    let us : List Unreaped = entries 0 locations in
+    let out : is_in location (descriptors_in_use us) ≡ false
+    = lowest_free-apart size (length p.descriptors.items) us location
+    (subst (λ (ns : List ℕ). is_in location ns ≡ true) a.lowest (ap (λ (n : ℕ). is_in n p.descriptors.items) e ∙ head_is_in p.descriptors.items a.some))
     in
-    none_from_map (entry_at place) (get_or places place None) (sym (entry_with places place 0 place (omega arith)) ∙ none_with_free_id size place us k.order out)
+    none_from_map (entry_at location) (get_or locations location None) (sym (entry_with locations location 0 location (omega arith)) ∙ none_with_free_id size location us k.order out)
 
 -- the list once it is added
-pub entries_added : (size free : ℕ) (words tags : List ℕ) (places : List (Option Posted)) (p : Posted) (place : ℕ) → IsKept size free words tags places → IsAddable size (entries 0 places) p
-    → place ≡ head_of p.descriptors.items → entries 0 (slice_set places place (Some p)) ≡ with_buffer (unreaped_of p) (entries 0 places)
-entries_added size free words tags places p place k a e =
-    let fits : size ≤ length places = k.fits in
-    let low : head_of p.descriptors.items < size = addable_head size (entries 0 places) p a in
-    entries_with places p place 0 place (omega arith) (omega arith) (addable_place size free words tags places p place k a e)
-    ∙ ap (λ (id : ℕ). with_buffer (entry_at id p) (entries 0 places)) e
+pub entries_added : (size free : ℕ) (words tags : List ℕ) (locations : List (Option Posted)) (p : Posted) (location : ℕ) → IsKept size free words tags locations → IsAddable size (entries 0 locations) p
+    → location ≡ head_of p.descriptors.items → entries 0 (slice_set locations location (Some p)) ≡ with_buffer (unreaped_of p) (entries 0 locations)
+entries_added size free words tags locations p location k a e =
+    let fits : size ≤ length locations = k.fits in
+    let low : head_of p.descriptors.items < size = addable_head size (entries 0 locations) p a in
+    entries_with locations p location 0 location (omega arith) (omega arith) (addable_location size free words tags locations p location k a e)
+    ∙ ap (λ (id : ℕ). with_buffer (entry_at id p) (entries 0 locations)) e
 
 -- a buffer is added
-pub kept_added : (size free : ℕ) (words tags words2 tags2 : List ℕ) (places : List (Option Posted)) (p : Posted) (place : ℕ) → IsKept size free words tags places
-    → IsAddable size (entries 0 places) p → place ≡ head_of p.descriptors.items
+pub kept_added : (size free : ℕ) (words tags words2 tags2 : List ℕ) (locations : List (Option Posted)) (p : Posted) (location : ℕ) → IsKept size free words tags locations
+    → IsAddable size (entries 0 locations) p → location ≡ head_of p.descriptors.items
     → ((n : ℕ) → is_member words2 n ≡ (not (is_in n p.descriptors.items) && is_member words n)) → length words2 ≡ length words
     → ((n : ℕ) → is_member tags2 n ≡ (eqb p.tag n || is_member tags n)) → length tags2 ≡ length tags
-    → IsKept size (free - p.slots) words2 tags2 (slice_set places place (Some p))
-kept_added size free words tags words2 tags2 places p place k a e fewer words_room more tags_room =
-    let us : List Unreaped = entries 0 places in
+    → IsKept size (free - p.slots) words2 tags2 (slice_set locations location (Some p))
+kept_added size free words tags words2 tags2 locations p location k a e fewer words_room more tags_room =
+    let us : List Unreaped = entries 0 locations in
     let u : Unreaped = unreaped_of p in
-    let list : entries 0 (slice_set places place (Some p)) ≡ with_buffer u us = entries_added size free words tags places p place k a e in
+    let list : entries 0 (slice_set locations location (Some p)) ≡ with_buffer u us = entries_added size free words tags locations p location k a e in
     let buffer : IsBuffer u = record { some = a.some; few = a.few; id = refl; slots = a.slots; readable = a.readable } in
-    let rise : IsTrue (ids_rise (with_buffer u us)) = subst (λ (ws : List Unreaped). IsTrue (ids_rise ws)) list (entries_rise 0 (slice_set places place (Some p))) in
-    let long : length (slice_set places place (Some p)) ≡ length places = length-set places place (Some p) in
-    let fits : size ≤ length places = k.fits in
-    let room : length places ≤ 64 * length words = k.room in
+    let rise : IsTrue (ids_rise (with_buffer u us)) = subst (λ (ws : List Unreaped). IsTrue (ids_rise ws)) list (entries_rise 0 (slice_set locations location (Some p))) in
+    let long : length (slice_set locations location (Some p)) ≡ length locations = length-set locations location (Some p) in
+    let fits : size ≤ length locations = k.fits in
+    let room : length locations ≤ 64 * length words = k.room in
     let slots : p.slots ≤ size - slots_of_all us = a.room in
     let whole : free + slots_of_all us ≡ size = k.free in
     let both : slots_of_all (with_buffer u us) ≡ p.slots + slots_of_all us = slots_joined u us in
@@ -136,25 +136,25 @@ kept_added size free words tags words2 tags2 places p place k a e fewer words_ro
           ∙ ap (holds_tag tag) (sym list);
     }
 
--- the buffer with an id, where its place has one
-pub entry_found : (places : List (Option Posted)) (id : ℕ) (p : Posted) → get_or places id None ≡ Some p → unreaped_with id (entries 0 places) ≡ Some (entry_at id p)
-entry_found places id p e = entry_with places id 0 id (omega arith) ∙ ap (option_map (entry_at id)) e
+-- the buffer with an id, where its location has one
+pub entry_found : (locations : List (Option Posted)) (id : ℕ) (p : Posted) → get_or locations id None ≡ Some p → unreaped_with id (entries 0 locations) ≡ Some (entry_at id p)
+entry_found locations id p e = entry_with locations id 0 id (omega arith) ∙ ap (option_map (entry_at id)) e
 
 -- a buffer is removed
-pub kept_removed : (size free : ℕ) (words tags words2 tags2 : List ℕ) (places : List (Option Posted)) (p : Posted) (id : ℕ) → IsKept size free words tags places
-    → get_or places id None ≡ Some p
+pub kept_removed : (size free : ℕ) (words tags words2 tags2 : List ℕ) (locations : List (Option Posted)) (p : Posted) (id : ℕ) → IsKept size free words tags locations
+    → get_or locations id None ≡ Some p
     → ((n : ℕ) → is_member words2 n ≡ (is_in n p.descriptors.items || is_member words n)) → length words2 ≡ length words
     → ((n : ℕ) → is_member tags2 n ≡ (not (eqb p.tag n) && is_member tags n)) → length tags2 ≡ length tags
-    → IsKept size (free + p.slots) words2 tags2 (slice_set places id None)
-kept_removed size free words tags words2 tags2 places p id k e more words_room fewer tags_room =
-    let us : List Unreaped = entries 0 places in
+    → IsKept size (free + p.slots) words2 tags2 (slice_set locations id None)
+kept_removed size free words tags words2 tags2 locations p id k e more words_room fewer tags_room =
+    let us : List Unreaped = entries 0 locations in
     let u : Unreaped = entry_at id p in
-    let found : unreaped_with id us ≡ Some u = entry_found places id p e in
-    let list : entries 0 (slice_set places id None) ≡ without id us = entries_without places id 0 id (omega arith) in
-    let rise : IsTrue (ids_rise (without id us)) = subst (λ (ws : List Unreaped). IsTrue (ids_rise ws)) list (entries_rise 0 (slice_set places id None)) in
-    let long : length (slice_set places id None) ≡ length places = length-set places id None in
-    let fits : size ≤ length places = k.fits in
-    let room : length places ≤ 64 * length words = k.room in
+    let found : unreaped_with id us ≡ Some u = entry_found locations id p e in
+    let list : entries 0 (slice_set locations id None) ≡ without id us = entries_without locations id 0 id (omega arith) in
+    let rise : IsTrue (ids_rise (without id us)) = subst (λ (ws : List Unreaped). IsTrue (ids_rise ws)) list (entries_rise 0 (slice_set locations id None)) in
+    let long : length (slice_set locations id None) ≡ length locations = length-set locations id None in
+    let fits : size ≤ length locations = k.fits in
+    let room : length locations ≤ 64 * length words = k.room in
     let whole : free + slots_of_all us ≡ size = k.free in
     let both : slots_of_all us ≡ p.slots + slots_of_all (without id us) = slots_left id u us found in
     let tags_long : length tags ≡ 1024 = k.room_for_tags in
@@ -185,17 +185,17 @@ addable_from v w p e a = subst (λ (x : PostedView). IsAddable x.size x.unreaped
 pub all_raised : (low high : ℕ) (ns : List ℕ) → low ≤ high → All (λ n. n < low) ns → All (λ n. n < high) ns
 all_raised low high ns h all = λ k d inside. omega (arith, all k d inside)
 
--- an id that names a buffer has a place
+-- an id that names a buffer has a location
 some_value : {X : Type 0} (o : Option X) → IsSome o → (x : X) × (o ≡ Some x)
 some_value None h = absurd (false≢true h)
 some_value (Some x) h = (x, refl)
 
-pub id_below : (size free : ℕ) (words tags : List ℕ) (places : List (Option Posted)) (id : ℕ) → IsKept size free words tags places → IsSome (unreaped_with id (entries 0 places)) → id < length places
-id_below size free words tags places id k some =
-    let (u, e) = some_value (unreaped_with id (entries 0 places)) some in
-    let (buffer, low) = found_in_order size id (entries 0 places) u k.order e in
-    let is : u.id ≡ id = found_id id (entries 0 places) u e in
-    let fits : size ≤ length places = k.fits in
+pub id_below : (size free : ℕ) (words tags : List ℕ) (locations : List (Option Posted)) (id : ℕ) → IsKept size free words tags locations → IsSome (unreaped_with id (entries 0 locations)) → id < length locations
+id_below size free words tags locations id k some =
+    let (u, e) = some_value (unreaped_with id (entries 0 locations)) some in
+    let (buffer, low) = found_in_order size id (entries 0 locations) u k.order e in
+    let is : u.id ≡ id = found_id id (entries 0 locations) u e in
+    let fits : size ≤ length locations = k.fits in
     omega arith
 
 -- what the parts of a view are

@@ -5,4 +5,5 @@ pub mod Kept
 pub mod Members
 pub mod Numbers
 pub mod Reaps
+pub mod Rising
 pub mod Words

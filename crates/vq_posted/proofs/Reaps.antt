@@ -6,7 +6,7 @@ use Rattle.vt_types.specs.Access.{AccessValue}
 use Rattle.vt_types.specs.Program.{Do, Mark, End, Gives}
 use Rattle.port_access.specs.Accesses.{bytes_program, get_bytes, mark_alone}
 use Rattle.port_access.proofs.InOrder.{get_then, mark_then, not_by_cases}
-use Rattle.vq_common.specs.Map.{data_place}
+use Rattle.vt_layout.specs.QueueBlock.{data_address}
 use Rattle.vq_common.specs.Queue.{DriverQueue, Unreaped, ReapedValue}
 use Rattle.vq_posted.specs.Reap.{ask_program, reap_end, reap_bytes, reap_named, reap_nothing}
 
@@ -21,7 +21,7 @@ module _ {P : Type 0} (step : P → AccessValue → Answer → List ℕ → List
   reap_end_gives q u r p p2 asked = asked_or_not (reaped q u).cfg.event_idx (ask (reaped q u)) (Some r, reaped q u) p p2 asked
 
   -- the written bytes, and the end
-  pub reap_bytes_gives : (q : DriverQueue) (u : Unreaped) (len : ℕ) (bytes : List ℕ) (p mid p2 : P) → Gives step marking (bytes_program (data_place q.base u.id + u.readable) len) p bytes mid
+  pub reap_bytes_gives : (q : DriverQueue) (u : Unreaped) (len : ℕ) (bytes : List ℕ) (p mid p2 : P) → Gives step marking (bytes_program (data_address q.base u.id + u.readable) len) p bytes mid
       → Gives step marking (ask_program ask (reaped q u)) mid tt p2 → Gives step marking (reap_bytes reaped ask q u len) p (Some (record { tag = u.tag; len = len; bytes = bytes }), reaped q u) p2
   reap_bytes_gives q u zero bytes p mid p2 (none, stays) asked =
       let r : ReapedValue = record { tag = u.tag; len = 0; bytes = [] } in
@@ -30,13 +30,13 @@ module _ {P : Type 0} (step : P → AccessValue → Answer → List ℕ → List
       (subst (λ (m : P). Gives step marking (reap_end reaped ask q u r) m (Some r, reaped q u) p2) stays given)
   reap_bytes_gives q u (suc n) bytes p mid p2 done asked =
       let some : eqb (suc n) 0 ≡ false = ne_eqb (suc n) 0 (λ e. absurd (omega arith)) in
-      let got_them : Gives step marking (get_bytes (data_place q.base u.id + u.readable) (suc n)) p bytes mid = rw some at done in
-      rw some (get_then step marking (data_place q.base u.id + u.readable) (suc n) (λ ys. reap_end reaped ask q u (record { tag = u.tag; len = suc n; bytes = ys })) p mid p2 bytes (Some (record { tag = u.tag; len = suc n; bytes = bytes }), reaped q u) got_them
+      let got_them : Gives step marking (get_bytes (data_address q.base u.id + u.readable) (suc n)) p bytes mid = rw some at done in
+      rw some (get_then step marking (data_address q.base u.id + u.readable) (suc n) (λ ys. reap_end reaped ask q u (record { tag = u.tag; len = suc n; bytes = ys })) p mid p2 bytes (Some (record { tag = u.tag; len = suc n; bytes = bytes }), reaped q u) got_them
       (reap_end_gives q u (record { tag = u.tag; len = suc n; bytes = bytes }) mid p2 asked))
 
   -- the device names an unreaped buffer
   pub reap_found_gives : (q : DriverQueue) (u : Unreaped) (o : Option Unreaped) (len : ℕ) (bytes : List ℕ) (p mid p2 : P) → o ≡ Some u → len ≤ 8192
-      → Gives step marking (bytes_program (data_place q.base u.id + u.readable) len) p bytes mid → Gives step marking (ask_program ask (reaped q u)) mid tt p2
+      → Gives step marking (bytes_program (data_address q.base u.id + u.readable) len) p bytes mid → Gives step marking (ask_program ask (reaped q u)) mid tt p2
       → Gives step marking (reap_named reaped ask q len o) p (Some (record { tag = u.tag; len = len; bytes = bytes }), reaped q u) p2
   reap_found_gives q u o len bytes p mid p2 is few done asked = rw (is, le-leb len 8192 few) (reap_bytes_gives q u len bytes p mid p2 done asked)
 

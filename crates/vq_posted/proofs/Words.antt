@@ -46,7 +46,7 @@ member_by_bit words i word n e h is =
     ap (λ (b : ℕ). eqb b 1) (shr_and_one word (n % 64))
     ∙ ap (λ (w : ℕ). eqb (bit_at w (n % 64)) 1) (is ∙ get_or_default_zero words i word h ∙ ap (λ (k : ℕ). get_or words k 0) e)
 
--- a word at another place is the same, and so are the members there
+-- a word at another location is the same, and so are the members there
 member_elsewhere : (words : List ℕ) (i word n : ℕ) → n / 64 ≢ i → is_member (slice_set words i word) n ≡ is_member words n
 unfolding is_member
 member_elsewhere words i word n d = ap (λ (w : ℕ). eqb (bit_at w (n % 64)) 1) (get_or-set_other words i (n / 64) word 0 d)
@@ -118,13 +118,13 @@ pub next_in_word : (words : List ℕ) (first i word : ℕ) → first ≤ i → i
 next_in_word words first i word low h is some bound zeros =
     let t : ℕ = trailing_zeros w64 word in
     let (inside, on, off) = bit_at-trailing_zeros w64 word some bound in
-    let place : (64 * i + t) / 64 ≡ i = omega arith in
+    let location : (64 * i + t) / 64 ≡ i = omega arith in
     let bit : (64 * i + t) % 64 ≡ t = omega arith in
     record {
       low = omega arith;
       inside = omega arith;
       member =
-          sym (member_is words i word (64 * i + t) place h is)
+          sym (member_is words i word (64 * i + t) location h is)
           ∙ ap (λ (k : ℕ). eqb (bit_at word k) 1) bit
           ∙ ap (λ (x : ℕ). eqb x 1) on;
       none_before = λ k from below.
@@ -186,13 +186,13 @@ next_behind_mask words from i word at h is some bound =
     let small : masked ≤ word = and_le_l word _ in
     let (inside, on, off) = bit_at-trailing_zeros w64 masked some (omega arith) in
     let (bit_on, cut) = masked_on word (from % 64) t (omega arith) on in
-    let place : (64 * i + t) / 64 ≡ i = omega arith in
+    let location : (64 * i + t) / 64 ≡ i = omega arith in
     let bit : (64 * i + t) % 64 ≡ t = omega arith in
     record {
       low = omega arith;
       inside = omega arith;
       member =
-          sym (member_is words i word (64 * i + t) place h is)
+          sym (member_is words i word (64 * i + t) location h is)
           ∙ ap (λ (k : ℕ). eqb (bit_at word k) 1) bit
           ∙ ap (λ (x : ℕ). eqb x 1) bit_on;
       none_before = λ k low below.

@@ -1,15 +1,16 @@
 use Rattle.std.specs.Prelude.{◌≡◌, ℕ, ◌<◌, ◌≤◌, ◌&&◌, List, [], ◌∷◌, length, map, All, Bool, true, IsTrue, nat_lt}
 use Rattle.std.specs.List.{list_all}
+use Rattle.vt_types.specs.Limits.{LONGEST_BUFFER, MOST_PIECES}
 use Rattle.vq_common.specs.Queue.{Unreaped, slots_of_all}
 use Rattle.vq_posted.specs.Free.{descriptors_in_use, head_of, is_distinct}
 
--- an unreaped buffer: 1 to 8 descriptors, no more than its slots, the head of which is its id
+-- an unreaped buffer: some descriptors, not too many and no more than its slots, the head of which is its id
 pub record IsBuffer (u : Unreaped) : Type 0 where
   pub some : 1 ≤ length u.descriptors
-  pub few : length u.descriptors ≤ 8
+  pub few : length u.descriptors ≤ MOST_PIECES
   pub id : u.id ≡ head_of u.descriptors
   pub slots : length u.descriptors ≤ u.slots
-  pub readable : u.readable ≤ 8192
+  pub readable : u.readable ≤ LONGEST_BUFFER
 
 -- each id is below those of the buffers that follow
 abbrev pub ids_rise : List Unreaped → Bool

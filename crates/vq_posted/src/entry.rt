@@ -4,12 +4,13 @@ ghost use Rattle.std.specs.Prelude.{◌≡◌};
 ghost use Rattle.vq_posted.specs.Free.{head_of};
 
 use arrayvec::ArrayVec;
+use vt_types::MOST_PIECES;
 
 /// A buffer that was posted and not yet reaped.
 #[derive(Drop)]
 pub struct Posted {
     /// Its descriptors, the head first. A buffer of a packed ring has its id alone here.
-    pub descriptors: ArrayVec<u16, 8>,
+    pub descriptors: ArrayVec<u16, MOST_PIECES>,
     pub tag: u16,
     /// How many slots of the ring it takes.
     pub slots: u16,

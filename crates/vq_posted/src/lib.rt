@@ -1,7 +1,7 @@
 //! The buffers that a driver has posted on a queue and not yet reaped, for both kinds of ring (VIRTIO 1.2, 2.7 and 2.8).
 //!
 //! A tag, an id and the lowest free descriptors are found without a look at the buffers in flight: tags and free descriptors
-//! are bits of words, and a buffer stands in a table at the place of its id. On a ring of 1,024 a call takes some 25 steps at
+//! are bits of words, and a buffer stands in a table at the location of its id. On a ring of 1,024 a call takes some 25 steps at
 //! most.
 #![tactic(auto)]
 

@@ -1,13 +1,14 @@
 //! A set of small numbers.
 
 ghost use Rattle.std.specs.Prelude.{◌≡◌, ℕ, [], ◌+◌, ◌*◌, ◌/◌, ◌<◌, ◌≤◌, ◌==◌, ◌||◌, ◌&&◌, not, false, length, nat_lt, take, All, IfOk, MatchOption};
+ghost use Rattle.vt_types.specs.Limits.{MOST_PIECES};
 ghost use Rattle.vq_posted.specs.Free.{is_in};
 ghost use Rattle.vq_posted.specs.Members.{is_member, members, IsNext};
 
 use arrayvec::ArrayVec;
 use std::alloc::Global;
 use std::marker::Model;
-use vt_types::Memory;
+use vt_types::{MOST_PIECES, Memory};
 
 /// A set of numbers below a bound that is a multiple of 64, and at most 65,536.
 ///
@@ -137,8 +138,8 @@ impl NumberSet {
     }
 
     /// Adds the lowest members to a list that has none, rising: `count` of them, or all where there are fewer.
-    pub fn add_lowest(&self, count: usize, numbers: &mut ArrayVec<u16, 8>)
-        requires few { count ≤ 8 }
+    pub fn add_lowest(&self, count: usize, numbers: &mut ArrayVec<u16, MOST_PIECES>)
+        requires few { count ≤ MOST_PIECES }
         requires none { numbers.old.items ≡ [] }
         ensures { numbers.new.items ≡ take count (members self.now) }
     {

@@ -1,6 +1,7 @@
 //! The posted buffers.
 
 ghost use Rattle.std.specs.Prelude.{◌≡◌, ℕ, ◌+◌, ◌-◌, ◌<◌, ◌≤◌, length, take, IfOk, IsSome, [], false, replicate};
+ghost use Rattle.vt_types.specs.Limits.{LONGEST_BUFFER, MOST_PIECES};
 ghost use Rattle.vq_posted.specs.Free.{free_descriptors};
 ghost use Rattle.vq_posted.specs.Order.{IsInOrder};
 ghost use Rattle.vq_common.specs.Queue.{slots_of_all, holds_tag, with_buffer, unreaped_with, without};
@@ -11,7 +12,7 @@ use crate::number_set::NumberSet;
 use arrayvec::ArrayVec;
 use std::alloc::Global;
 use std::marker::Model;
-use vt_types::Memory;
+use vt_types::{MOST_PIECES, Memory};
 
 /// The buffers that a driver has posted on a ring and not yet reaped.
 ///
@@ -22,7 +23,7 @@ pub struct PostedBuffers {
     free: u16,
     descriptors: NumberSet,
     tags: NumberSet,
-    places: Vec<Option<Posted>>,
+    locations: Vec<Option<Posted>>,
 }
 
 impl Model for PostedBuffers {
@@ -31,17 +32,17 @@ impl Model for PostedBuffers {
 
     ghost Value = { PostedView };
 
-    ghost view = { λ p. record { size = p.size; greatest = length p.places.items; unreaped = entries 0 p.places.items } };
+    ghost view = { λ p. record { size = p.size; greatest = length p.locations.items; unreaped = entries 0 p.locations.items } };
 
-    ghost invariant = { λ p. IsKept p.size p.free p.descriptors p.tags p.places.items };
+    ghost invariant = { λ p. IsKept p.size p.free p.descriptors p.tags p.locations.items };
 }
 
-/// No place has a buffer.
-fn clear(places: &mut [Option<Posted>])
-    ensures { places.new ≡ replicate (length places.old) None }
+/// No location has a buffer.
+fn clear(locations: &mut [Option<Posted>])
+    ensures { locations.new ≡ replicate (length locations.old) None }
 {
-    'places: for place in places.iter_mut() {
-        *place = None;
+    'locations: for location in locations.iter_mut() {
+        *location = None;
     }
 }
 
@@ -50,16 +51,16 @@ impl PostedBuffers {
     pub fn new(alloc: Global, max: u16) -> Result<PostedBuffers, Memory>
         ensures { IfOk result (λ p. p ≡ record { size = 0; greatest = max; unreaped = [] }) }
     {
-        let mut places = Vec::with_capacity(alloc, usize::from(max))?;
-        'places: for _place in 0..max {
-            places.push(None)?;
+        let mut locations = Vec::with_capacity(alloc, usize::from(max))?;
+        'locations: for _location in 0..max {
+            locations.push(None)?;
         }
         Ok(PostedBuffers {
             size: 0,
             free: 0,
             descriptors: NumberSet::new(alloc, max)?,
             tags: NumberSet::new(alloc, u16::MAX)?,
-            places,
+            locations,
         })
     }
 
@@ -72,7 +73,7 @@ impl PostedBuffers {
         self.free = size;
         self.descriptors.fill(size);
         self.tags.clear();
-        clear(self.places.as_mut_slice());
+        clear(self.locations.as_mut_slice());
     }
 
     /// How many slots of the ring are free.
@@ -91,9 +92,9 @@ impl PostedBuffers {
         self.tags.contains(tag)
     }
 
-    /// The lowest free descriptors, rising: up to 8, and no more than there are free slots.
-    pub fn lowest_free(&self, count: usize) -> ArrayVec<u16, 8>
-        requires few { count ≤ 8 }
+    /// The lowest free descriptors, rising: up to `MOST_PIECES`, and no more than there are free slots.
+    pub fn lowest_free(&self, count: usize) -> ArrayVec<u16, MOST_PIECES>
+        requires few { count ≤ MOST_PIECES }
         requires room { count ≤ self.now.size - slots_of_all self.now.unreaped }
         ensures value { result.items ≡ take count (free_descriptors self.now.size self.now.unreaped) }
         ensures count { length result.items ≡ count }
@@ -103,10 +104,11 @@ impl PostedBuffers {
         descriptors
     }
 
-    /// Adds the lowest free descriptors, rising, to a list that has none: up to 8, and no more than there are free slots.
+    /// Adds the lowest free descriptors, rising, to a list that has none: up to `MOST_PIECES`, and no more than there
+    /// are free slots.
     #[inline]
-    pub fn add_lowest_free(&self, count: usize, descriptors: &mut ArrayVec<u16, 8>)
-        requires few { count ≤ 8 }
+    pub fn add_lowest_free(&self, count: usize, descriptors: &mut ArrayVec<u16, MOST_PIECES>)
+        requires few { count ≤ MOST_PIECES }
         requires room { count ≤ self.now.size - slots_of_all self.now.unreaped }
         requires none { descriptors.old.items ≡ [] }
         ensures value { descriptors.new.items ≡ take count (free_descriptors self.now.size self.now.unreaped) }
@@ -120,25 +122,25 @@ impl PostedBuffers {
     pub fn add(&mut self, posted: Posted)
         requires tag { holds_tag posted.tag self.old.unreaped ≡ false }
         requires some { 1 ≤ length posted.descriptors.items }
-        requires few { length posted.descriptors.items ≤ 8 }
+        requires few { length posted.descriptors.items ≤ MOST_PIECES }
         requires lowest { posted.descriptors.items ≡ take (length posted.descriptors.items) (free_descriptors self.old.size self.old.unreaped) }
         requires slots { length posted.descriptors.items ≤ posted.slots }
         requires room { posted.slots ≤ self.old.size - slots_of_all self.old.unreaped }
-        requires readable { posted.readable ≤ 8192 }
+        requires readable { posted.readable ≤ LONGEST_BUFFER }
         ensures { self.new ≡ record self.old { unreaped = with_buffer (unreaped_of posted) self.old.unreaped } }
     {
         self.free -= posted.slots;
         self.tags.insert(posted.tag);
         self.descriptors.remove_all(posted.descriptors.as_slice());
-        let place = usize::from(head(posted.descriptors.as_slice()));
-        self.places[place] = Some(posted);
+        let location = usize::from(head(posted.descriptors.as_slice()));
+        self.locations[location] = Some(posted);
     }
 
     /// The buffer with this id, which a device may have made up; `None` where there is none.
     pub fn find(&self, id: u32) -> Option<Found>
         ensures { result ≡ found_of (unreaped_with id self.now.unreaped) }
     {
-        match self.places.get(id as usize)? {
+        match self.locations.get(id as usize)? {
             Some(posted) => Some(Found {
                 tag: posted.tag,
                 slots: posted.slots,
@@ -153,7 +155,7 @@ impl PostedBuffers {
         requires { IsSome (unreaped_with id self.old.unreaped) }
         ensures { self.new ≡ record self.old { unreaped = without id self.old.unreaped } }
     {
-        if let Some(posted) = self.places[usize::from(id)].take() {
+        if let Some(posted) = self.locations[usize::from(id)].take() {
             self.free += posted.slots;
             self.tags.remove(posted.tag);
             self.descriptors.insert_all(posted.descriptors.as_slice());

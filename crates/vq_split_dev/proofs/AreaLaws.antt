@@ -21,11 +21,11 @@ HasAreas-from_test memory c test =
     record { desc = leb-true _ _ desc; driver = leb-true _ _ driver; device = leb-true _ _ device }
 
 -- where the next used element stands
-abbrev pub element_place : DeviceQueue → ℕ
-element_place q = q.cfg.device + (4 + 8 * (q.used % q.cfg.size))
+abbrev pub element_address : DeviceQueue → ℕ
+element_address q = q.cfg.device + (4 + 8 * (q.used % q.cfg.size))
 
 -- the next used element ends inside memory
-pub element_inside : (memory : ℕ) (q : DeviceQueue) → HasAreas memory q.cfg → 0 < q.cfg.size → element_place q + 8 ≤ memory
+pub element_inside : (memory : ℕ) (q : DeviceQueue) → HasAreas memory q.cfg → 0 < q.cfg.size → element_address q + 8 ≤ memory
 element_inside memory q areas some =
-    let place : q.used % q.cfg.size < q.cfg.size = mod-lt q.used some in
+    let location : q.used % q.cfg.size < q.cfg.size = mod-lt q.used some in
     omega (arith, areas.device)

@@ -58,10 +58,10 @@ joined_more : (mem : List ℕ) (c : RingCfg) (head i : ℕ) (ps : List Piece) (d
     → joined mem c head i ps (and_following d follow) ≡ joined mem c head (i + 1) (ps ++ piece_of d ∷ []) (follow d.next)
 joined_more mem c head i ps d follow direct next = ap (joined mem c head i ps) (following_more d follow next) ∙ before_others mem c head i ps d (follow d.next) direct
 
-opened : (mem : List ℕ) (c : RingCfg) (head i place : ℕ) (ps : List Piece) → i < c.size → place < c.size
-    → joined mem c head i ps (chain_from (c.size - i) mem c.desc c.size place)
-    ≡ joined mem c head i ps (and_following (descriptor_at mem c.desc place) (λ next. chain_from (c.size - (i + 1)) mem c.desc c.size next))
-opened mem c head i place ps left inside = ap (joined mem c head i ps) (chain_step c.size i place c.desc c.size mem left inside)
+opened : (mem : List ℕ) (c : RingCfg) (head i location : ℕ) (ps : List Piece) → i < c.size → location < c.size
+    → joined mem c head i ps (chain_from (c.size - i) mem c.desc c.size location)
+    ≡ joined mem c head i ps (and_following (descriptor_at mem c.desc location) (λ next. chain_from (c.size - (i + 1)) mem c.desc c.size next))
+opened mem c head i location ps left inside = ap (joined mem c head i ps) (chain_step c.size i location c.desc c.size mem left inside)
 
 -- more than eight pieces keep no rules, and no more pieces behind them help
 joined_too_many : (mem : List ℕ) (c : RingCfg) (head i : ℕ) (ps : List Piece) (o : Option (List Descriptor)) → 8 < length ps → joined mem c head i ps o ≡ Bad
@@ -69,50 +69,50 @@ joined_too_many mem c head i ps None many = refl
 joined_too_many mem c head i ps (Some ds) many = too_many_before (length mem) head (i + length ds) ps (chain_pieces mem c ds) many
 
 -- a piece goes behind those so far, and the chain goes on
-pub goes_on : (mem : List ℕ) (c : RingCfg) (head i : ℕ) (ps : List Piece) (place : ℕ) → i < c.size → place < c.size
-    → is_indirect (descriptor_at mem c.desc place).flags ≡ false → has_next (descriptor_at mem c.desc place).flags ≡ true
-    → joined mem c head i ps (chain_from (c.size - i) mem c.desc c.size place)
-    ≡ joined mem c head (i + 1) (ps ++ piece_of (descriptor_at mem c.desc place) ∷ []) (chain_from (c.size - (i + 1)) mem c.desc c.size (descriptor_at mem c.desc place).next)
-goes_on mem c head i ps place left inside direct more =
-    opened mem c head i place ps left inside
-    ∙ joined_more mem c head i ps (descriptor_at mem c.desc place) (λ next. chain_from (c.size - (i + 1)) mem c.desc c.size next) direct more
+pub goes_on : (mem : List ℕ) (c : RingCfg) (head i : ℕ) (ps : List Piece) (location : ℕ) → i < c.size → location < c.size
+    → is_indirect (descriptor_at mem c.desc location).flags ≡ false → has_next (descriptor_at mem c.desc location).flags ≡ true
+    → joined mem c head i ps (chain_from (c.size - i) mem c.desc c.size location)
+    ≡ joined mem c head (i + 1) (ps ++ piece_of (descriptor_at mem c.desc location) ∷ []) (chain_from (c.size - (i + 1)) mem c.desc c.size (descriptor_at mem c.desc location).next)
+goes_on mem c head i ps location left inside direct more =
+    opened mem c head i location ps left inside
+    ∙ joined_more mem c head i ps (descriptor_at mem c.desc location) (λ next. chain_from (c.size - (i + 1)) mem c.desc c.size next) direct more
 
 last_piece : (mem : List ℕ) (c : RingCfg) (ps : List Piece) (d : Descriptor) → is_indirect d.flags ≡ false
     → option_map (λ more. ps ++ more) (chain_pieces mem c (d ∷ [])) ≡ Some (ps ++ piece_of d ∷ [])
 last_piece mem c ps d direct = rw direct refl
 
 -- a piece goes behind those so far, and the chain ends
-pub ends_with_piece : (mem : List ℕ) (c : RingCfg) (head i : ℕ) (ps : List Piece) (place : ℕ) → i < c.size → place < c.size
-    → is_indirect (descriptor_at mem c.desc place).flags ≡ false → has_next (descriptor_at mem c.desc place).flags ≡ false
-    → joined mem c head i ps (chain_from (c.size - i) mem c.desc c.size place) ≡ chain_if_valid (length mem) head (i + 1) (Some (ps ++ piece_of (descriptor_at mem c.desc place) ∷ []))
-ends_with_piece mem c head i ps place left inside direct last =
-    let d : Descriptor = descriptor_at mem c.desc place in
-    opened mem c head i place ps left inside
+pub ends_with_piece : (mem : List ℕ) (c : RingCfg) (head i : ℕ) (ps : List Piece) (location : ℕ) → i < c.size → location < c.size
+    → is_indirect (descriptor_at mem c.desc location).flags ≡ false → has_next (descriptor_at mem c.desc location).flags ≡ false
+    → joined mem c head i ps (chain_from (c.size - i) mem c.desc c.size location) ≡ chain_if_valid (length mem) head (i + 1) (Some (ps ++ piece_of (descriptor_at mem c.desc location) ∷ []))
+ends_with_piece mem c head i ps location left inside direct last =
+    let d : Descriptor = descriptor_at mem c.desc location in
+    opened mem c head i location ps left inside
     ∙ joined_last mem c head i ps d (λ next. chain_from (c.size - (i + 1)) mem c.desc c.size next) last
     ∙ ap (chain_if_valid (length mem) head (i + 1)) (last_piece mem c ps d direct)
 
 -- no chain has a ninth piece
-full_by_next : (mem : List ℕ) (c : RingCfg) (head i : ℕ) (ps : List Piece) (place : ℕ) → i < c.size → place < c.size → is_indirect (descriptor_at mem c.desc place).flags ≡ false → 8 ≤ length ps
-    → joined mem c head i ps (chain_from (c.size - i) mem c.desc c.size place) ≡ Bad
-full_by_next mem c head i ps place left inside direct full =
-    let d : Descriptor = descriptor_at mem c.desc place in
+full_by_next : (mem : List ℕ) (c : RingCfg) (head i : ℕ) (ps : List Piece) (location : ℕ) → i < c.size → location < c.size → is_indirect (descriptor_at mem c.desc location).flags ≡ false → 8 ≤ length ps
+    → joined mem c head i ps (chain_from (c.size - i) mem c.desc c.size location) ≡ Bad
+full_by_next mem c head i ps location left inside direct full =
+    let d : Descriptor = descriptor_at mem c.desc location in
     let many : 8 < length (ps ++ piece_of d ∷ []) = omega (arith, length-append ps (piece_of d ∷ [])) in
     elim (cases_Bool (has_next d.flags)) [
-      | inl more ↦ goes_on mem c head i ps place left inside direct more ∙ joined_too_many mem c head (i + 1) (ps ++ piece_of d ∷ []) (chain_from (c.size - (i + 1)) mem c.desc c.size d.next) many
-      | inr last ↦ ends_with_piece mem c head i ps place left inside direct last ∙ too_many (length mem) head (i + 1) (ps ++ piece_of d ∷ []) many
+      | inl more ↦ goes_on mem c head i ps location left inside direct more ∙ joined_too_many mem c head (i + 1) (ps ++ piece_of d ∷ []) (chain_from (c.size - (i + 1)) mem c.desc c.size d.next) many
+      | inr last ↦ ends_with_piece mem c head i ps location left inside direct last ∙ too_many (length mem) head (i + 1) (ps ++ piece_of d ∷ []) many
     ]
 
--- a chain is malformed where it goes through a place that the table lacks, or has a ninth piece
-pub fails_here : (mem : List ℕ) (c : RingCfg) (head i : ℕ) (ps : List Piece) (place : ℕ) → i < c.size
-    → (c.size ≤ place) ⊎ ((is_indirect (descriptor_at mem c.desc place).flags ≡ false) × (8 ≤ length ps))
-    → joined mem c head i ps (chain_from (c.size - i) mem c.desc c.size place) ≡ Bad
-fails_here mem c head i ps place left cause =
+-- a chain is malformed where it goes through a location that the table lacks, or has a ninth piece
+pub fails_here : (mem : List ℕ) (c : RingCfg) (head i : ℕ) (ps : List Piece) (location : ℕ) → i < c.size
+    → (c.size ≤ location) ⊎ ((is_indirect (descriptor_at mem c.desc location).flags ≡ false) × (8 ≤ length ps))
+    → joined mem c head i ps (chain_from (c.size - i) mem c.desc c.size location) ≡ Bad
+fails_here mem c head i ps location left cause =
     elim cause [
-      | inl past ↦ ap (joined mem c head i ps) (chain_from_past (c.size - i) mem c.desc c.size place past)
+      | inl past ↦ ap (joined mem c head i ps) (chain_from_past (c.size - i) mem c.desc c.size location past)
       | inr full ↦
-          elim (cases_lt place c.size) [
-            | inl inside ↦ full_by_next mem c head i ps place left inside full.0 full.1
-            | inr past ↦ ap (joined mem c head i ps) (chain_from_past (c.size - i) mem c.desc c.size place past)
+          elim (cases_lt location c.size) [
+            | inl inside ↦ full_by_next mem c head i ps location left inside full.0 full.1
+            | inr past ↦ ap (joined mem c head i ps) (chain_from_past (c.size - i) mem c.desc c.size location past)
           ]
     ]
 
@@ -137,11 +137,11 @@ with_table memory head slots b ps new (Some more) added =
     ]
 
 -- the pieces of a table go behind those so far where they fit, and the chain ends
-pub ends_with_table : (mem : List ℕ) (c : RingCfg) (head i : ℕ) (ps new : List Piece) (place : ℕ) (b : Bool) → i < c.size → place < c.size
-    → is_indirect (descriptor_at mem c.desc place).flags ≡ true → pieces_if b new ≡ pieces_with ps (chain_pieces mem c (descriptor_at mem c.desc place ∷ []))
-    → joined mem c head i ps (chain_from (c.size - i) mem c.desc c.size place) ≡ (if b then chain_if_valid (length mem) head (i + 1) (Some new) else Bad)
-ends_with_table mem c head i ps new place b left inside indirect added =
-    let d : Descriptor = descriptor_at mem c.desc place in
-    opened mem c head i place ps left inside
+pub ends_with_table : (mem : List ℕ) (c : RingCfg) (head i : ℕ) (ps new : List Piece) (location : ℕ) (b : Bool) → i < c.size → location < c.size
+    → is_indirect (descriptor_at mem c.desc location).flags ≡ true → pieces_if b new ≡ pieces_with ps (chain_pieces mem c (descriptor_at mem c.desc location ∷ []))
+    → joined mem c head i ps (chain_from (c.size - i) mem c.desc c.size location) ≡ (if b then chain_if_valid (length mem) head (i + 1) (Some new) else Bad)
+ends_with_table mem c head i ps new location b left inside indirect added =
+    let d : Descriptor = descriptor_at mem c.desc location in
+    opened mem c head i location ps left inside
     ∙ joined_indirect mem c head i ps d (λ next. chain_from (c.size - (i + 1)) mem c.desc c.size next) indirect
     ∙ with_table (length mem) head (i + 1) b ps new (chain_pieces mem c (d ∷ [])) added

@@ -9,7 +9,7 @@ use Rattle.vq_common.specs.Queue.{DeviceQueue}
 use Rattle.vq_split_dev.specs.Walk.{split_areas_inside, split_walk}
 use Rattle.vq_split_dev.specs.Give.{next_used, split_given_memory}
 use Rattle.vq_split_dev.proofs.WalkLaws.{IsApartFromWalk, IsApartFromWalk-inside, IsApartFromWalk-put_apart, split_walk-put_apart}
-use Rattle.vq_split_dev.proofs.AreaLaws.{HasAreas-from_test, element_place, element_inside}
+use Rattle.vq_split_dev.proofs.AreaLaws.{HasAreas-from_test, element_address, element_inside}
 
 -- two puts inside leave the length
 length-put_twice : (m xs ys : List ℕ) (a b : ℕ) → a + length xs ≤ length m → b + length ys ≤ length m → length (put_at (put_at m a xs) b ys) ≡ length m
@@ -62,17 +62,17 @@ pub length-split_given_memory : (mem : List ℕ) (q : DeviceQueue) (id len : ℕ
     → length (split_given_memory mem q id len) ≡ length mem
 length-split_given_memory mem q id len areas some =
     let inside = HasAreas-from_test (length mem) q.cfg areas in
-    let element : element_place q + 8 ≤ length mem = element_inside (length mem) q inside some in
-    length-put_twice mem (little_bytes 4 id ++ little_bytes 4 len) (little_bytes 2 (next_used q)) (element_place q) (q.cfg.device + 2)
+    let element : element_address q + 8 ≤ length mem = element_inside (length mem) q inside some in
+    length-put_twice mem (little_bytes 4 id ++ little_bytes 4 len) (little_bytes 2 (next_used q)) (element_address q) (q.cfg.device + 2)
     (omega (arith, length-element id len)) (omega (arith, length-little_bytes 2 (next_used q), inside.device))
 
 -- and each part apart from the used element and the used index
 pub part-split_given_memory : (mem : List ℕ) (q : DeviceQueue) (id len b n : ℕ) → IsTrue (split_areas_inside (length mem) q.cfg) → 0 < q.cfg.size
-    → Apart (element_place q) 8 b n → Apart (q.cfg.device + 2) 2 b n → part (split_given_memory mem q id len) b n ≡ part mem b n
+    → Apart (element_address q) 8 b n → Apart (q.cfg.device + 2) 2 b n → part (split_given_memory mem q id len) b n ≡ part mem b n
 part-split_given_memory mem q id len b n areas some from_element from_index =
     let inside = HasAreas-from_test (length mem) q.cfg areas in
-    let element : element_place q + 8 ≤ length mem = element_inside (length mem) q inside some in
-    part-put_twice_apart mem (little_bytes 4 id ++ little_bytes 4 len) (little_bytes 2 (next_used q)) (element_place q) (q.cfg.device + 2) b n
+    let element : element_address q + 8 ≤ length mem = element_inside (length mem) q inside some in
+    part-put_twice_apart mem (little_bytes 4 id ++ little_bytes 4 len) (little_bytes 2 (next_used q)) (element_address q) (q.cfg.device + 2) b n
     (omega (arith, length-element id len)) (omega (arith, length-little_bytes 2 (next_used q), inside.device))
     (rw (length-element id len) from_element) (rw (length-little_bytes 2 (next_used q)) from_index)
 
@@ -81,29 +81,29 @@ pub used_index : (mem : List ℕ) (q : DeviceQueue) (id len : ℕ) → IsTrue (s
     → le16_at (split_given_memory mem q id len) (q.cfg.device + 2) ≡ next_used q
 used_index mem q id len areas some =
     let inside = HasAreas-from_test (length mem) q.cfg areas in
-    let element : element_place q + 8 ≤ length mem = element_inside (length mem) q inside some in
+    let element : element_address q + 8 ≤ length mem = element_inside (length mem) q inside some in
     let fits : next_used q < 2 ^ 16 = mod-lt (q.used + 1) (omega arith) in
-    ap (little_number 2) (last_field mem (little_bytes 4 id ++ little_bytes 4 len) (little_bytes 2 (next_used q)) (element_place q) (q.cfg.device + 2) 2
+    ap (little_number 2) (last_field mem (little_bytes 4 id ++ little_bytes 4 len) (little_bytes 2 (next_used q)) (element_address q) (q.cfg.device + 2) 2
     (length-little_bytes 2 (next_used q)) (omega (arith, length-element id len)) (omega (arith, inside.device)))
     ∙ little_number-little_bytes 2 (next_used q) fits
 
 -- the id of the used element is read
 pub used_id : (mem : List ℕ) (q : DeviceQueue) (id len : ℕ) → IsTrue (split_areas_inside (length mem) q.cfg) → 0 < q.cfg.size → id < 2 ^ 32
-    → le32_at (split_given_memory mem q id len) (element_place q) ≡ id
+    → le32_at (split_given_memory mem q id len) (element_address q) ≡ id
 used_id mem q id len areas some fits =
     let inside = HasAreas-from_test (length mem) q.cfg areas in
-    let element : element_place q + 8 ≤ length mem = element_inside (length mem) q inside some in
-    ap (little_number 4) (first_field mem (little_bytes 4 id) (little_bytes 4 len) (little_bytes 2 (next_used q)) (element_place q) (q.cfg.device + 2) 4 4
+    let element : element_address q + 8 ≤ length mem = element_inside (length mem) q inside some in
+    ap (little_number 4) (first_field mem (little_bytes 4 id) (little_bytes 4 len) (little_bytes 2 (next_used q)) (element_address q) (q.cfg.device + 2) 4 4
     (length-little_bytes 4 id) (length-little_bytes 4 len) element (omega (arith, length-little_bytes 2 (next_used q))))
     ∙ little_number-little_bytes 4 id fits
 
 -- and its number of bytes written
 pub used_len : (mem : List ℕ) (q : DeviceQueue) (id len : ℕ) → IsTrue (split_areas_inside (length mem) q.cfg) → 0 < q.cfg.size → len < 2 ^ 32
-    → le32_at (split_given_memory mem q id len) (element_place q + 4) ≡ len
+    → le32_at (split_given_memory mem q id len) (element_address q + 4) ≡ len
 used_len mem q id len areas some fits =
     let inside = HasAreas-from_test (length mem) q.cfg areas in
-    let element : element_place q + 8 ≤ length mem = element_inside (length mem) q inside some in
-    ap (little_number 4) (second_field mem (little_bytes 4 id) (little_bytes 4 len) (little_bytes 2 (next_used q)) (element_place q) (q.cfg.device + 2) 4 4
+    let element : element_address q + 8 ≤ length mem = element_inside (length mem) q inside some in
+    ap (little_number 4) (second_field mem (little_bytes 4 id) (little_bytes 4 len) (little_bytes 2 (next_used q)) (element_address q) (q.cfg.device + 2) 4 4
     (length-little_bytes 4 id) (length-little_bytes 4 len) element (omega (arith, length-little_bytes 2 (next_used q))))
     ∙ little_number-little_bytes 4 len fits
 
@@ -122,6 +122,6 @@ pub split_walk-split_given_memory : (mem : List ℕ) (g q : DeviceQueue) (id len
     → IsApartFromWalk g.cfg.device (6 + 8 * g.cfg.size) mem q → split_walk (split_given_memory mem g id len) q ≡ split_walk mem q
 split_walk-split_given_memory mem g q id len areas some apart =
     let inside = HasAreas-from_test (length mem) g.cfg areas in
-    let place : g.used % g.cfg.size < g.cfg.size = mod-lt g.used some in
-    put_twice_apart mem (little_bytes 4 id ++ little_bytes 4 len) (little_bytes 2 (next_used g)) (element_place g) (g.cfg.device + 2) g.cfg.device (6 + 8 * g.cfg.size) q
+    let location : g.used % g.cfg.size < g.cfg.size = mod-lt g.used some in
+    put_twice_apart mem (little_bytes 4 id ++ little_bytes 4 len) (little_bytes 2 (next_used g)) (element_address g) (g.cfg.device + 2) g.cfg.device (6 + 8 * g.cfg.size) q
     (omega arith) (omega (arith, length-element id len)) (omega arith) (omega (arith, length-little_bytes 2 (next_used g))) inside.device apart

@@ -72,7 +72,7 @@ waiting_heads-put_apart mem a xs q inside apart =
 next_head-put_apart : (mem : List ℕ) (a : ℕ) (xs : List ℕ) (q : DeviceQueue) → 0 < q.cfg.size → a + length xs ≤ length mem → Apart a (length xs) q.cfg.driver (6 + 2 * q.cfg.size)
     → next_head (put_at mem a xs) q ≡ next_head mem q
 next_head-put_apart mem a xs q some inside apart =
-    let place : q.taken % q.cfg.size < q.cfg.size = mod-lt q.taken some in
+    let location : q.taken % q.cfg.size < q.cfg.size = mod-lt q.taken some in
     let at : ℕ = q.cfg.driver + (4 + 2 * (q.taken % q.cfg.size)) in
     le16_at-put_apart mem a xs at inside (Apart-part a (length xs) q.cfg.driver (6 + 2 * q.cfg.size) at 2 (omega arith) (omega arith) apart)
 

@@ -11,7 +11,7 @@ use Rattle.vq_common.proofs.TableLaws.{length-chain_from}
 use Rattle.vq_common.proofs.WalkedLaws.{shown_if, shown_unless_empty, shown_unless_bad, valid_is_shown}
 use Rattle.vq_split_dev.specs.Walk.{split_walk, split_areas_inside, waiting_heads, next_head, chain_of, chain_pieces}
 
--- a chain of some descriptors that is shown keeps the rules, and has no more places than they are
+-- a chain of some descriptors that is shown keeps the rules, and has no more locations than they are
 of_chain : (mem : List ℕ) (cfg : RingCfg) (head n : ℕ) (o : Option (List Descriptor)) (c : ChainValue)
     → ((ds : List Descriptor) → o ≡ Some ds → length ds ≤ n) → chain_of mem cfg head o ≡ Front c → IsTrue (keeps_rules (length mem) c.pieces) × (c.slots ≤ n)
 of_chain mem cfg head n None c few is = absurd (cc)
@@ -20,7 +20,7 @@ of_chain mem cfg head n (Some ds) c few is =
     let le : length ds ≤ n = few ds refl in
     (rules, omega arith)
 
--- a chain that the walk shows keeps the rules, takes no more places than the ring has, and is shown only where the
+-- a chain that the walk shows keeps the rules, takes no more locations than the ring has, and is shown only where the
 -- areas lie inside memory
 pub shown : (mem : List ℕ) (q : DeviceQueue) (c : ChainValue) → split_walk mem q ≡ Front c → IsShown split_areas_inside (length mem) q c
 shown mem q c is =

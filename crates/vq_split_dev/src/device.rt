@@ -12,7 +12,7 @@ use byteorder::{ByteOrder, LittleEndian};
 use guest_mem::GuestMem;
 use std::marker::Model;
 use vq_common::area::{le16_at, put, put_le16};
-use vq_common::{AvailableFlags, Chain, DeviceEnd, RingCfg, Take, ring_place};
+use vq_common::{AvailableFlags, Chain, DeviceEnd, RingCfg, Take, ring_location};
 
 #[cfg(test)]
 mod tests;
@@ -51,8 +51,8 @@ impl SplitDevice {
         requires { IsTrue (split_areas_inside (length mem.now.bytes) self.now.cfg) }
         ensures { result ≡ next_head mem.now.bytes self.now }
     {
-        let place = ring_place(self.taken, self.cfg.size);
-        le16_at(mem, self.cfg.driver, 4 + 2 * place as u64)
+        let location = ring_location(self.taken, self.cfg.size);
+        le16_at(mem, self.cfg.driver, 4 + 2 * location as u64)
     }
 
     /// What the ring shows next.
@@ -131,9 +131,9 @@ impl DeviceEnd for SplitDevice {
     }
 
     fn give(&mut self, mem: &mut GuestMem, chain: &Chain, len: u32) -> bool {
-        let place = ring_place(self.used, self.cfg.size);
+        let location = ring_location(self.used, self.cfg.size);
         let element = used_element(chain.id, len);
-        put(mem, self.cfg.device, 4 + 8 * place as u64, &element);
+        put(mem, self.cfg.device, 4 + 8 * location as u64, &element);
         let next = self.used.wrapping_add(1);
         put_le16(mem, self.cfg.device, 2, next);
         let signals = self.signals(mem);

@@ -9,6 +9,7 @@ ghost use Rattle.vq_split_dev.specs.Walk.{WalksTo, chain_pieces, chain_shown};
 use arrayvec::ArrayVec;
 use guest_mem::GuestMem;
 use vq_common::{Chain, Descriptor, Piece, RingCfg, Take, WalkStep, add_table, are_pieces_valid};
+use vt_types::MOST_PIECES;
 
 /// Adds the pieces of the table that the last descriptor of a chain names, and answers whether it did. A descriptor with
 /// NEXT names none, and neither does one of a ring without VIRTIO_F_INDIRECT_DESC.
@@ -16,7 +17,7 @@ fn add_last_table(
     mem: &GuestMem,
     cfg: &RingCfg,
     last: Descriptor,
-    pieces: &mut ArrayVec<Piece, 8>,
+    pieces: &mut ArrayVec<Piece, MOST_PIECES>,
 ) -> bool
     requires { is_indirect last.flags ≡ true }
     ensures { pieces_if result pieces.new.items ≡ pieces_with pieces.old.items (chain_pieces mem.now.bytes cfg.now (last ∷ [])) }
@@ -26,15 +27,20 @@ fn add_last_table(
 
 /// Finds the pieces of the chain that begins at a head, and answers how many descriptors of the ring it takes. None
 /// where the chain is malformed; whether its pieces keep the rules isn't tested.
-fn walk(mem: &GuestMem, cfg: &RingCfg, head: u16, pieces: &mut ArrayVec<Piece, 8>) -> Option<u16>
+fn walk(
+    mem: &GuestMem,
+    cfg: &RingCfg,
+    head: u16,
+    pieces: &mut ArrayVec<Piece, MOST_PIECES>,
+) -> Option<u16>
     requires none { pieces.old.items ≡ [] }
     requires table { cfg.now.desc + 16 * cfg.now.size ≤ length mem.now.bytes }
     ensures { WalksTo mem.now.bytes cfg.now head result pieces.new.items }
 {
-    let mut place = head;
+    let mut location = head;
     'descriptors: for index in 0..cfg.size {
-        match WalkStep::take(mem, cfg.desc, cfg.size, place, pieces) {
-            WalkStep::Next(next) => place = next,
+        match WalkStep::take(mem, cfg.desc, cfg.size, location, pieces) {
+            WalkStep::Next(next) => location = next,
             WalkStep::End => return Some(index + 1),
             WalkStep::Table(last) => {
                 let added = add_last_table(mem, cfg, last, pieces);

@@ -32,9 +32,9 @@ pub length-descriptors_for : (q : DriverQueue) (b : PostedBuffer) → IsSplitQue
 length-descriptors_for q b h room = lowest_free-length q.cfg.size (slots_of b) q.unreaped h.order room
 
 -- the buffers once one more is posted
-pub posted_are : (q : DriverQueue) (b : PostedBuffer) (places : List ℕ) (slots readable : ℕ) → places ≡ descriptors_for q b → slots ≡ slots_of b → readable ≡ length b.readable
-    → with_buffer (record { tag = b.tag; id = head_of places; descriptors = places; slots = slots; readable = readable }) q.unreaped ≡ (split_posted q b).unreaped
-posted_are q b places slots readable e f h = ap (λ (u : Unreaped). with_buffer u q.unreaped)
+pub posted_are : (q : DriverQueue) (b : PostedBuffer) (locations : List ℕ) (slots readable : ℕ) → locations ≡ descriptors_for q b → slots ≡ slots_of b → readable ≡ length b.readable
+    → with_buffer (record { tag = b.tag; id = head_of locations; descriptors = locations; slots = slots; readable = readable }) q.unreaped ≡ (split_posted q b).unreaped
+posted_are q b locations slots readable e f h = ap (λ (u : Unreaped). with_buffer u q.unreaped)
     (ap (λ (ns : List ℕ). record { tag = b.tag; id = head_of ns; descriptors = ns; slots = slots; readable = readable }) e
     ∙ ap (λ (n : ℕ). record { tag = b.tag; id = head_of (descriptors_for q b); descriptors = descriptors_for q b; slots = n; readable = readable }) f
     ∙ ap (λ (n : ℕ). record { tag = b.tag; id = head_of (descriptors_for q b); descriptors = descriptors_for q b; slots = slots_of b; readable = n }) h)

@@ -7,7 +7,7 @@ use Rattle.vt_types.specs.Access.{AccessValue, Get}
 use Rattle.vt_types.specs.Program.{Program, Do, Mark, End, Gives}
 use Rattle.port_access.specs.Accesses.{bytes_or_zeros, get_bytes, mark_alone, mark_unless}
 use Rattle.port_access.proofs.InOrder.{get_then, mark_then}
-use Rattle.vq_common.specs.Map.{device_area}
+use Rattle.vt_layout.specs.QueueBlock.{device_area}
 use Rattle.vq_common.specs.Queue.{DriverQueue, ReapedValue, unreaped_with}
 use Rattle.vq_split_drv.specs.Reap.{reap_element, split_reap_program}
 

@@ -1,5 +1,5 @@
 use Rattle.std.specs.Prelude.{◌≡◌, ℕ, ◌^◌, ◌<◌, ◌≤◌, List, [], length, All, true}
-use Rattle.vq_common.specs.Queue.{DriverQueue, Unreaped}
+use Rattle.vq_common.specs.Queue.{DriverQueue, GREATEST_RING, Unreaped}
 use Rattle.vq_posted.specs.Order.{IsInOrder}
 use Rattle.vq_posted.specs.Table.{PostedView}
 use Rattle.vq_split_drv.specs.declared.ring.Ring.{Ring}
@@ -25,7 +25,7 @@ pub record IsSplitBuffer (u : Unreaped) : Type 0 where
 
 -- a driver's record of a split queue: numbers in range, and buffers with descriptors of their own
 pub record IsSplitQueue (q : DriverQueue) : Type 0 where
-  pub size : q.cfg.size ≤ 1024
+  pub size : q.cfg.size ≤ GREATEST_RING
   pub available : q.available < 2 ^ 16
   pub used : q.used < 2 ^ 16
   pub order : IsInOrder q.cfg.size q.unreaped

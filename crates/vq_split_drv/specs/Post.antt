@@ -5,7 +5,7 @@ use Rattle.vt_types.specs.Operation.{PostedBuffer}
 use Rattle.port_access.specs.Accesses.{data_puts}
 use Rattle.vq_common.specs.declared.descriptor.Descriptor.{Descriptor}
 use Rattle.vq_common.specs.Descriptor.{descriptor_bytes, flags_of}
-use Rattle.vq_common.specs.Map.{driver_area, table_place, data_place}
+use Rattle.vt_layout.specs.QueueBlock.{driver_area, table_address, data_address}
 use Rattle.vq_common.specs.Queue.{DriverQueue, slots_of, with_buffer}
 use Rattle.vq_posted.specs.Free.{free_descriptors, head_of, numbers}
 
@@ -13,26 +13,26 @@ use Rattle.vq_posted.specs.Free.{free_descriptors, head_of, numbers}
 abbrev pub descriptors_for : DriverQueue → PostedBuffer → List ℕ
 descriptors_for q b = take (slots_of b) (free_descriptors q.cfg.size q.unreaped)
 
--- the descriptor of a piece: WRITE where it isn't readable, and NEXT with the place that follows, where one does
+-- the descriptor of a piece: WRITE where it isn't readable, and NEXT with the location that follows, where one does
 abbrev pub descriptor_of : ℕ → ℕ → ℕ → Option ℕ → Descriptor
 descriptor_of addr readable len None = record { addr = addr; len = len; flags = flags_of false (readable == 0); next = 0 }
 descriptor_of addr readable len (Some next) = record { addr = addr; len = len; flags = flags_of true (readable == 0); next = next }
 
 -- descriptors of pieces that lie one after the other from an address on; the first `readable` of them are readable, and
--- each but the last names the place that follows
+-- each but the last names the location that follows
 abbrev pub descriptors_of : ℕ → ℕ → List ℕ → List ℕ → List Descriptor
-descriptors_of addr readable [] places = []
-descriptors_of addr readable (len ∷ []) places = descriptor_of addr readable len None ∷ []
-descriptors_of addr readable (len ∷ more) places = descriptor_of addr readable len (Some (head_of places)) ∷ descriptors_of (addr + len) (readable - 1) more (drop 1 places)
+descriptors_of addr readable [] locations = []
+descriptors_of addr readable (len ∷ []) locations = descriptor_of addr readable len None ∷ []
+descriptors_of addr readable (len ∷ more) locations = descriptor_of addr readable len (Some (head_of locations)) ∷ descriptors_of (addr + len) (readable - 1) more (drop 1 locations)
 
--- the place that follows a place of a table of `count` places, where one does
-abbrev pub place_after : ℕ → ℕ → Option ℕ
-place_after n count = if nat_lt (n + 1) count then Some (n + 1) else None
+-- the location that follows a location of a table of `count` locations, where one does
+abbrev pub location_after : ℕ → ℕ → Option ℕ
+location_after n count = if nat_lt (n + 1) count then Some (n + 1) else None
 
--- a put of each descriptor at its place of a table
+-- a put of each descriptor at its location of a table
 abbrev pub puts_of : ℕ → List ℕ → List Descriptor → List AccessValue
-puts_of table places [] = []
-puts_of table places (d ∷ ds) = Put (table + 16 * head_of places) (descriptor_bytes d) ∷ puts_of table (drop 1 places) ds
+puts_of table locations [] = []
+puts_of table locations (d ∷ ds) = Put (table + 16 * head_of locations) (descriptor_bytes d) ∷ puts_of table (drop 1 locations) ds
 
 -- descriptors as the bytes of a table
 abbrev pub table_bytes : List Descriptor → List ℕ
@@ -41,14 +41,14 @@ table_bytes (d ∷ ds) = descriptor_bytes d ++ table_bytes ds
 
 -- the puts of a buffer's own descriptors
 abbrev pub direct_puts : DriverQueue → PostedBuffer → List ℕ → List AccessValue
-direct_puts q b places =
-    puts_of q.base places (descriptors_of (data_place q.base (head_of places)) b.readable_pieces b.lengths (drop 1 places))
+direct_puts q b locations =
+    puts_of q.base locations (descriptors_of (data_address q.base (head_of locations)) b.readable_pieces b.lengths (drop 1 locations))
 
 -- the puts of a buffer's table and of the descriptor that names it
 abbrev pub indirect_puts : DriverQueue → PostedBuffer → ℕ → List AccessValue
 indirect_puts q b head =
-    Put (table_place q.base head) (table_bytes (descriptors_of (data_place q.base head) b.readable_pieces b.lengths (numbers 1 (length b.lengths))))
-    ∷ Put (q.base + 16 * head) (descriptor_bytes (record { addr = table_place q.base head; len = 16 * length b.lengths; flags = 4; next = 0 }))
+    Put (table_address q.base head) (table_bytes (descriptors_of (data_address q.base head) b.readable_pieces b.lengths (numbers 1 (length b.lengths))))
+    ∷ Put (q.base + 16 * head) (descriptor_bytes (record { addr = table_address q.base head; len = 16 * length b.lengths; flags = 4; next = 0 }))
     ∷ []
 
 -- the puts that make a buffer available: the ring entry, and then the index (VIRTIO 1.2, 2.7.13)
@@ -60,14 +60,14 @@ available_puts q head =
 
 -- the puts of a buffer's descriptors
 abbrev pub chain_puts : DriverQueue → PostedBuffer → List ℕ → List AccessValue
-chain_puts q b places = if b.indirect then indirect_puts q b (head_of places) else direct_puts q b places
+chain_puts q b locations = if b.indirect then indirect_puts q b (head_of locations) else direct_puts q b locations
 
 -- the accesses of a post with these descriptors: the data, the descriptors, the ring entry, the index
 abbrev pub post_puts : DriverQueue → PostedBuffer → List ℕ → List AccessValue
-post_puts q b places =
-    data_puts (data_place q.base (head_of places)) b.readable
-    ++ chain_puts q b places
-    ++ available_puts q (head_of places)
+post_puts q b locations =
+    data_puts (data_address q.base (head_of locations)) b.readable
+    ++ chain_puts q b locations
+    ++ available_puts q (head_of locations)
 
 abbrev pub split_post_accesses : DriverQueue → PostedBuffer → List AccessValue
 split_post_accesses q b = post_puts q b (descriptors_for q b)

@@ -3,7 +3,7 @@ use Rattle.byteorder.specs.Endian.{little_number, little_bytes}
 use Rattle.vt_types.specs.Access.{AccessValue, Get, Put}
 use Rattle.vt_types.specs.Program.{Program, Do, Mark, End}
 use Rattle.port_access.specs.Accesses.{bytes_or_zeros, mark_unless}
-use Rattle.vq_common.specs.Map.{driver_area, device_area}
+use Rattle.vt_layout.specs.QueueBlock.{driver_area, device_area}
 use Rattle.vq_common.specs.Queue.{DriverQueue, Unreaped, ReapedValue, unreaped_with, without}
 use Rattle.vq_posted.specs.Reap.{reap_named}
 
@@ -15,7 +15,8 @@ split_reaped q u = record q { used = (q.used + 1) % 2 ^ 16; unreaped = without u
 abbrev pub used_event_put : DriverQueue → AccessValue
 used_event_put q = Put (driver_area q.base + (4 + 2 * q.cfg.size)) (little_bytes 2 q.used)
 
--- the buffer that a used element names, where this is an unreaped one with at most 8,192 written bytes
+-- the buffer that a used element names, where this is an unreaped one with no more written bytes than a buffer may
+-- have
 abbrev pub reap_element : DriverQueue → ℕ → Option Unreaped → Program (Option ReapedValue × DriverQueue)
 reap_element q len o = reap_named split_reaped used_event_put q len o
 

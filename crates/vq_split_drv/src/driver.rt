@@ -14,7 +14,7 @@ use std::alloc::Global;
 use std::marker::Model;
 use vq_common::{DriverEnd, Full, Reaped, RingCfg, slots_of};
 use vq_posted::{Posted, PostedBuffers};
-use vt_types::{Memory, Port, PostBuf, Room};
+use vt_types::{LONGEST_BUFFER, Memory, Port, PostBuf, Room};
 
 /// A driver's end of a split virtqueue (VIRTIO 1.2, 2.7).
 ///
@@ -39,7 +39,7 @@ impl Model for SplitDriver {
 
 impl SplitDriver {
     /// Reaps the buffer that a used element names. None where there is no such buffer, or where the element's length
-    /// is above 8,192.
+    /// is above `LONGEST_BUFFER`.
     fn reap_element<P: Port>(
         &mut self,
         port: &mut P,
@@ -52,7 +52,7 @@ impl SplitDriver {
         ensures greatest { self.new.greatest ≡ self.old.greatest }
     {
         match self.posted.find(element.id) {
-            Some(found) if element.len <= 8192 => {
+            Some(found) if element.len <= LONGEST_BUFFER as u32 => {
                 let head = element.id as u16;
                 self.ring
                     .get_data(port, head, found.readable, element.len as u16, room);

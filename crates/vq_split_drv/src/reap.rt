@@ -2,9 +2,10 @@
 
 ghost use Rattle.std.specs.Prelude.{◌≡◌, ◌+◌, ◌*◌, ◌%◌, ◌<◌, ◌≤◌, drop};
 ghost use Rattle.byteorder.specs.Endian.{little_number};
+ghost use Rattle.vt_types.specs.Limits.{LONGEST_BUFFER};
 ghost use Rattle.vt_types.specs.Program.{Gives};
 ghost use Rattle.port_access.specs.Accesses.{bytes_program, get_bytes};
-ghost use Rattle.vq_common.specs.Map.{data_place, device_area};
+ghost use Rattle.vt_layout.specs.QueueBlock.{data_address, device_area};
 ghost use Rattle.vq_common.specs.Queue.{cost_of_asking};
 ghost use Rattle.vq_posted.specs.Reap.{ask_program};
 ghost use Rattle.vq_split_drv.specs.Driver.{ring_queue};
@@ -13,8 +14,8 @@ ghost use Rattle.vq_split_drv.specs.Reap.{split_signals_program, used_event_put}
 use crate::ring::Ring;
 use byteorder::{ByteOrder, LittleEndian};
 use port_access::{get, get_written, put_u16};
-use vq_common::map::{DEVICE_AREA, DRIVER_AREA};
-use vq_common::{AvailableFlags, ring_place};
+use vq_common::{AvailableFlags, ring_location};
+use vt_layout::queue_block::{DEVICE_AREA, DRIVER_AREA};
 use vt_types::{Port, Room};
 
 /// An element of the used ring: a buffer's id, and how many bytes the device wrote (VIRTIO 1.2, 2.7.8).
@@ -43,8 +44,8 @@ impl Ring {
         ensures len { result.len ≡ little_number 4 (drop 4 room.new.items) }
         ensures credit { P.credit port.old ≤ P.credit port.new }
     {
-        let place = 4 + 8 * u64::from(ring_place(self.used, self.cfg.size));
-        get(port, self.base + DEVICE_AREA + place, 8, room);
+        let location = 4 + 8 * u64::from(ring_location(self.used, self.cfg.size));
+        get(port, self.base + DEVICE_AREA + location, 8, room);
         let bytes = room.as_slice();
         UsedElement {
             id: LittleEndian::read_u32(bytes),
@@ -61,8 +62,8 @@ impl Ring {
         len: u16,
         room: &mut Room,
     )
-        requires { len ≤ 8192 }
-        ensures gives { Gives P.step P.marking (bytes_program (data_place self.now.base head + readable) len) port.old room.new.items port.new }
+        requires { len ≤ LONGEST_BUFFER }
+        ensures gives { Gives P.step P.marking (bytes_program (data_address self.now.base head + readable) len) port.old room.new.items port.new }
         ensures credit { P.credit port.old ≤ P.credit port.new }
     {
         get_written(port, self.data(head) + u64::from(readable), len, room);
@@ -75,8 +76,8 @@ impl Ring {
         ensures credit { P.credit port.old ≤ P.credit port.new + cost_of_asking (ring_queue self.now) }
     {
         if self.cfg.event_idx {
-            let place = 4 + 2 * u64::from(self.cfg.size);
-            put_u16(port, self.base + DRIVER_AREA + place, self.used, room);
+            let location = 4 + 2 * u64::from(self.cfg.size);
+            put_u16(port, self.base + DRIVER_AREA + location, self.used, room);
             port.mark();
         }
     }

@@ -1,11 +1,13 @@
 //! A split ring in its queue block.
 
-ghost use Rattle.std.specs.Prelude.{◌≡◌, ◌%◌, ◌<◌, ◌≤◌, ◌^◌, IsTrue};
-ghost use Rattle.vq_common.specs.Map.{data_place};
-ghost use Rattle.vq_common.specs.Queue.{IsPlaced, is_ring_size};
+ghost use Rattle.std.specs.Prelude.{◌≡◌, ◌*◌, ◌%◌, ◌<◌, ◌≤◌, ◌^◌, IsTrue};
+ghost use Rattle.vt_types.specs.Device.{BLOCK_LEN, MOST_BLOCKS};
+ghost use Rattle.vt_types.specs.Limits.{GUEST_PAGE};
+ghost use Rattle.vt_layout.specs.QueueBlock.{data_address};
+ghost use Rattle.vq_common.specs.Queue.{GREATEST_RING, IsInBlock, is_ring_size};
 
 use vq_common::RingCfg;
-use vq_common::map::{DATA, DATA_LEN};
+use vt_layout::queue_block::{DATA, DATA_LEN};
 
 /// A split ring in its queue block, and the indices of the next available and of the next used element.
 #[derive(Clone, Copy)]
@@ -15,9 +17,9 @@ pub(crate) struct Ring {
     pub available: u16,
     pub used: u16,
     ghost sized: { 0 < cfg.size → IsTrue (is_ring_size cfg.size) },
-    ghost small: { cfg.size ≤ 1024 },
-    ghost low: { base ≤ 0x500_0000 },
-    ghost page: { base % 4096 ≡ 0 },
+    ghost small: { cfg.size ≤ GREATEST_RING },
+    ghost low: { base ≤ MOST_BLOCKS * BLOCK_LEN },
+    ghost page: { base % GUEST_PAGE ≡ 0 },
     ghost available_wraps: { available < 2 ^ 16 },
     ghost used_wraps: { used < 2 ^ 16 },
 }
@@ -45,7 +47,7 @@ impl Ring {
     /// A ring that begins.
     pub fn new(cfg: &RingCfg, base: u64) -> Ring
         requires size { IsTrue (is_ring_size cfg.now.size) }
-        requires placed { IsPlaced cfg.now base }
+        requires in_block { IsInBlock cfg.now base }
         ensures cfg { result.cfg ≡ cfg.now }
         ensures base { result.base ≡ base }
         ensures available { result.available ≡ 0 }
@@ -61,7 +63,7 @@ impl Ring {
 
     /// Where the data of the buffer with this head lies.
     pub fn data(&self, head: u16) -> u64
-        ensures value { result ≡ data_place self.now.base head }
+        ensures value { result ≡ data_address self.now.base head }
         ensures low { result < 2 ^ 32 }
     {
         self.base + DATA + DATA_LEN * u64::from(head)

@@ -7,15 +7,16 @@ use Rattle.vq_common.specs.declared.chain.Piece.{Piece}
 use Rattle.vq_common.specs.declared.descriptor.Descriptor.{Descriptor}
 use Rattle.vt_types.specs.Operation.{PostedBuffer}
 use Rattle.vq_common.specs.Descriptor.{chain_from, descriptor_at}
-use Rattle.vq_common.specs.Map.{data_place}
+use Rattle.vt_layout.specs.QueueBlock.{data_address}
 use Rattle.vq_common.specs.Queue.{DriverQueue, slots_of}
 use Rattle.vq_common.specs.Table.{is_table, pieces_if_direct, split_table, table_pieces}
 use Rattle.vq_split_dev.specs.Walk.{chain_pieces}
 use Rattle.vq_split_drv.specs.Cost.{length-descriptors_of}
 use Rattle.vq_split_drv.specs.Post.{descriptors_of}
 use Rattle.vq_split_pair.proofs.Chains.{chain_one, chain_reads}
-use Rattle.vq_split_pair.proofs.Pieces.{pieces_from, chain_pieces_are, table_pieces_are}
-use Rattle.vq_split_pair.proofs.Placed.{AreAt}
+use Rattle.vq_common.specs.Piece.{pieces_from}
+use Rattle.vq_split_pair.proofs.Pieces.{chain_pieces_are, table_pieces_are}
+use Rattle.vq_split_pair.proofs.Located.{AreAt}
 use Rattle.vq_posted.proofs.Members.{all_from_members}
 use Rattle.vq_posted.proofs.Numbers.{is_in_numbers, length-numbers}
 use Rattle.vq_posted.specs.Free.{numbers}
@@ -24,19 +25,19 @@ use Rattle.vq_posted.specs.Free.{numbers}
 pub record IsChain (mem : List ℕ) (q : DriverQueue) (b : PostedBuffer) (head : ℕ) : Type 0 where
   pub descriptors : List Descriptor
   pub chain : chain_from q.cfg.size mem q.base q.cfg.size head ≡ Some descriptors
-  pub pieces : chain_pieces mem q.cfg descriptors ≡ Some (pieces_from (data_place q.base head) b.readable_pieces b.lengths)
+  pub pieces : chain_pieces mem q.cfg descriptors ≡ Some (pieces_from (data_address q.base head) b.readable_pieces b.lengths)
   pub slots : length descriptors ≡ slots_of b
 
--- the descriptors of a buffer at its places are its chain
+-- the descriptors of a buffer at its locations are its chain
 pub direct_chain : (mem : List ℕ) (q : DriverQueue) (b : PostedBuffer) (n : ℕ) (ns : List ℕ) → b.indirect ≡ false → 1 ≤ length b.lengths → length b.lengths ≤ q.cfg.size → length b.lengths ≤ suc (length ns)
-    → All (λ k. k < q.cfg.size) (n ∷ ns) → AreAt mem q.base (n ∷ ns) (descriptors_of (data_place q.base n) b.readable_pieces b.lengths ns) → IsChain mem q b n
+    → All (λ k. k < q.cfg.size) (n ∷ ns) → AreAt mem q.base (n ∷ ns) (descriptors_of (data_address q.base n) b.readable_pieces b.lengths ns) → IsChain mem q b n
 direct_chain mem q b n ns direct some few enough below at =
-    let place : ℕ = data_place q.base n in
+    let location : ℕ = data_address q.base n in
     record {
-      descriptors = descriptors_of place b.readable_pieces b.lengths ns;
-      chain = chain_reads place b.readable_pieces b.lengths n ns q.cfg.size mem q.base q.cfg.size some few enough (All-take (λ k. k < q.cfg.size) (length b.lengths) (n ∷ ns) below) at;
-      pieces = chain_pieces_are mem q.cfg place b.readable_pieces b.lengths ns;
-      slots = length-descriptors_of place b.readable_pieces b.lengths ns ∙ sym (cond-false b.indirect 1 (length b.lengths) direct);
+      descriptors = descriptors_of location b.readable_pieces b.lengths ns;
+      chain = chain_reads location b.readable_pieces b.lengths n ns q.cfg.size mem q.base q.cfg.size some few enough (All-take (λ k. k < q.cfg.size) (length b.lengths) (n ∷ ns) below) at;
+      pieces = chain_pieces_are mem q.cfg location b.readable_pieces b.lengths ns;
+      slots = length-descriptors_of location b.readable_pieces b.lengths ns ∙ sym (cond-false b.indirect 1 (length b.lengths) direct);
     }
 
 -- the descriptor that names the table of so many descriptors
@@ -67,23 +68,23 @@ table_read : (mem : List ℕ) (table addr size : ℕ) (b : PostedBuffer) → 1 �
     → table_pieces mem table (16 * length b.lengths) size true ≡ Some (pieces_from addr b.readable_pieces b.lengths)
 table_read mem table addr size b some few fits inside at =
     let count : ℕ = length b.lengths in
-    let places : List ℕ = numbers 1 count in
+    let locations : List ℕ = numbers 1 count in
     let quotient : 16 * count / 16 ≡ count = omega arith in
     let below : All (λ k. k < count) (numbers 0 count) = all_from_members (λ k. k < count) (numbers 0 count) (λ k m. let (low, high) = is_in_numbers k 0 count m in omega arith) in
     cond-true (is_table (length mem) table (16 * count) size) (split_table mem table (16 * count)) None (table_allowed (length mem) table count size some few fits inside)
     ∙ ap (λ (k : ℕ). pieces_if_direct (chain_from k mem table k 0)) quotient
-    ∙ ap pieces_if_direct (chain_reads addr b.readable_pieces b.lengths 0 places count mem table count some (omega arith) (omega (arith, length-numbers 1 count)) (All-same (λ k. k < count) (take count (numbers 0 (suc count))) (numbers 0 count) (take-numbers 0 count) below) at)
-    ∙ table_pieces_are addr b.readable_pieces b.lengths places
+    ∙ ap pieces_if_direct (chain_reads addr b.readable_pieces b.lengths 0 locations count mem table count some (omega arith) (omega (arith, length-numbers 1 count)) (All-same (λ k. k < count) (take count (numbers 0 (suc count))) (numbers 0 count) (take-numbers 0 count) below) at)
+    ∙ table_pieces_are addr b.readable_pieces b.lengths locations
 
 -- a head whose descriptor names the table of a buffer is its chain
 pub indirect_chain : (mem : List ℕ) (q : DriverQueue) (b : PostedBuffer) (head table : ℕ) → b.indirect ≡ true → q.cfg.indirect ≡ true → 1 ≤ length b.lengths → length b.lengths ≤ 8 → length b.lengths ≤ q.cfg.size → head < q.cfg.size
     → table + 16 * length b.lengths ≤ length mem
     → descriptor_at mem q.base head ≡ naming table (length b.lengths)
-    → AreAt mem table (numbers 0 (suc (length b.lengths))) (descriptors_of (data_place q.base head) b.readable_pieces b.lengths (numbers 1 (length b.lengths))) → IsChain mem q b head
+    → AreAt mem table (numbers 0 (suc (length b.lengths))) (descriptors_of (data_address q.base head) b.readable_pieces b.lengths (numbers 1 (length b.lengths))) → IsChain mem q b head
 indirect_chain mem q b head table indirect offered some few fits low inside named at =
     let d : Descriptor = naming table (length b.lengths) in
-    let pieces : List Piece = pieces_from (data_place q.base head) b.readable_pieces b.lengths in
-    let found : table_pieces mem table (16 * length b.lengths) q.cfg.size true ≡ Some pieces = table_read mem table (data_place q.base head) q.cfg.size b some few fits inside at in
+    let pieces : List Piece = pieces_from (data_address q.base head) b.readable_pieces b.lengths in
+    let found : table_pieces mem table (16 * length b.lengths) q.cfg.size true ≡ Some pieces = table_read mem table (data_address q.base head) q.cfg.size b some few fits inside at in
     record {
       descriptors = d ∷ [];
       chain = chain_one q.cfg.size mem q.base q.cfg.size head d (omega arith) low named refl;

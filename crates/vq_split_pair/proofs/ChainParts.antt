@@ -7,9 +7,10 @@ use Rattle.guest_mem.proofs.Parts.{length-put_at, part-put_at_apart, part-put_at
 use Rattle.vt_types.specs.Access.{Put}
 use Rattle.vt_types.specs.Operation.{PostedBuffer}
 use Rattle.vq_common.specs.declared.descriptor.Descriptor.{Descriptor}
-use Rattle.vq_common.specs.Buffer.{IsPieceLength, IsPostable}
+use Rattle.vt_types.specs.Within.{IsPieceWithin}
+use Rattle.vq_common.specs.Buffer.{IsPostable}
 use Rattle.vq_common.specs.Descriptor.{descriptor_at, descriptor_bytes, descriptor_in}
-use Rattle.vq_common.specs.Map.{data_place, driver_area, table_place}
+use Rattle.vt_layout.specs.QueueBlock.{data_address, driver_area, table_address}
 use Rattle.vq_common.specs.Queue.{DriverQueue}
 use Rattle.vq_common.proofs.DescriptorLaws.{Fits, descriptor_at-put, length-descriptor_bytes}
 use Rattle.vq_split_drv.specs.Cost.{length-descriptors_of, length-table_bytes}
@@ -17,7 +18,7 @@ use Rattle.vq_split_drv.specs.Post.{available_puts, descriptors_of, direct_puts,
 use Rattle.vq_split_pair.specs.Pair.{IsInMemory}
 use Rattle.vq_split_pair.proofs.BufferChains.{IsChain, direct_chain, indirect_chain, naming}
 use Rattle.vq_split_pair.proofs.Chains.{descriptors_fit}
-use Rattle.vq_split_pair.proofs.Placed.{AreAt, AreAt-same, puts_read, puts_within}
+use Rattle.vq_split_pair.proofs.Located.{AreAt, AreAt-same, puts_read, puts_within}
 use Rattle.vq_split_pair.proofs.PostParts.{available_within, size_bounds}
 use Rattle.vq_split_pair.proofs.Tables.{table_reads}
 use Rattle.vq_split_pair.proofs.Written.{IsPutWithin, length-written, part-written, written, written_put}
@@ -26,33 +27,33 @@ use Rattle.vq_posted.proofs.Numbers.{is_in_numbers}
 use Rattle.vq_posted.specs.Free.{is_distinct, numbers}
 
 -- the block of a queue lies low
-base_low : (q : DriverQueue) (memory : ℕ) → IsInMemory memory q → q.base ≤ 0x5000000
+pub base_low : (q : DriverQueue) (memory : ℕ) → IsInMemory memory q.cfg q.base → q.base ≤ 0x5000000
 base_low q memory ring =
-    let n : ℕ = ring.placed.block.number in
-    let known : n < 5 = ring.placed.block.known in
-    let place : q.base ≡ (n + 1) * 0x1000000 = ring.placed.block.place in
+    let n : ℕ = ring.in_block.block.number in
+    let known : n < 5 = ring.in_block.block.known in
+    let location : q.base ≡ (n + 1) * 0x1000000 = ring.in_block.block.location in
     omega arith
 
 -- the fields of a buffer's descriptors fit their widths
-buffer_fits : (q : DriverQueue) (b : PostedBuffer) (head : ℕ) (places : List ℕ) (memory : ℕ) → IsInMemory memory q → IsPostable b → head < 1024 → All (λ k. k < 2 ^ 16) places
-    → All Fits (descriptors_of (data_place q.base head) b.readable_pieces b.lengths places)
-buffer_fits q b head places memory ring postable low below =
+pub buffer_fits : (q : DriverQueue) (b : PostedBuffer) (head : ℕ) (locations : List ℕ) (memory : ℕ) → IsInMemory memory q.cfg q.base → IsPostable b → head < 1024 → All (λ k. k < 2 ^ 16) locations
+    → All Fits (descriptors_of (data_address q.base head) b.readable_pieces b.lengths locations)
+buffer_fits q b head locations memory ring postable low below =
     let total : sum b.lengths ≤ 8192 = postable.total in
-    descriptors_fit (data_place q.base head) b.readable_pieces b.lengths places (omega (arith, base_low q memory ring))
-    (All-weaker IsPieceLength (λ n. n < 2 ^ 32) (λ n is. let high : n ≤ 4096 = is.high in omega arith) b.lengths postable.each) below
+    descriptors_fit (data_address q.base head) b.readable_pieces b.lengths locations (omega (arith, base_low q memory ring))
+    (All-weaker IsPieceWithin (λ n. n < 2 ^ 32) (λ n is. let high : n ≤ 4096 = is.high in omega arith) b.lengths postable.each) below
 
 -- the puts of a buffer's own descriptors lie in the table of the ring
 pub direct_within : (q : DriverQueue) (b : PostedBuffer) (n : ℕ) (ns : List ℕ) → length (n ∷ ns) ≡ length b.lengths → All (λ k. k < q.cfg.size) (n ∷ ns) → All (IsPutWithin q.base (16 * q.cfg.size)) (direct_puts q b (n ∷ ns))
 direct_within q b n ns many below =
-    puts_within q.base q.cfg.size (n ∷ ns) (descriptors_of (data_place q.base n) b.readable_pieces b.lengths ns) below
-    (omega (arith, length-descriptors_of (data_place q.base n) b.readable_pieces b.lengths ns))
+    puts_within q.base q.cfg.size (n ∷ ns) (descriptors_of (data_address q.base n) b.readable_pieces b.lengths ns) below
+    (omega (arith, length-descriptors_of (data_address q.base n) b.readable_pieces b.lengths ns))
 
 -- these puts, and then those that make the buffer available, leave its chain
-pub direct_after : (mem : List ℕ) (q : DriverQueue) (b : PostedBuffer) (n : ℕ) (ns : List ℕ) → IsInMemory (length mem) q → IsPostable b → b.indirect ≡ false → length b.lengths ≤ q.cfg.size → length (n ∷ ns) ≡ length b.lengths
+pub direct_after : (mem : List ℕ) (q : DriverQueue) (b : PostedBuffer) (n : ℕ) (ns : List ℕ) → IsInMemory (length mem) q.cfg q.base → IsPostable b → b.indirect ≡ false → length b.lengths ≤ q.cfg.size → length (n ∷ ns) ≡ length b.lengths
     → All (λ k. k < q.cfg.size) (n ∷ ns) → IsTrue (is_distinct (n ∷ ns)) → IsChain (written (available_puts q n) (written (direct_puts q b (n ∷ ns)) mem)) q b n
 direct_after mem q b n ns ring postable direct fits many below distinct =
-    let ds : List Descriptor = descriptors_of (data_place q.base n) b.readable_pieces b.lengths ns in
-    let count : length ds ≡ length b.lengths = length-descriptors_of (data_place q.base n) b.readable_pieces b.lengths ns in
+    let ds : List Descriptor = descriptors_of (data_address q.base n) b.readable_pieces b.lengths ns in
+    let count : length ds ≡ length b.lengths = length-descriptors_of (data_address q.base n) b.readable_pieces b.lengths ns in
     let (some, few) = size_bounds q.cfg.size ring.size in
     let inside : q.base + 0x1000000 ≤ length mem = ring.inside in
     let low : All (λ k. k < 2 ^ 16) (n ∷ ns) = All-weaker (λ k. k < q.cfg.size) (λ k. k < 2 ^ 16) (λ k h. omega arith) (n ∷ ns) below in
@@ -71,9 +72,9 @@ direct_after mem q b n ns ring postable direct fits many below distinct =
 pub indirect_within : (q : DriverQueue) (b : PostedBuffer) (head : ℕ) → length b.lengths ≤ 8 → head < 1024 → All (IsPutWithin q.base 0x400000) (indirect_puts q b head)
 indirect_within q b head few low =
     let P = IsPutWithin q.base 0x400000 in
-    let table : ℕ = table_place q.base head in
-    let ds : List Descriptor = descriptors_of (data_place q.base head) b.readable_pieces b.lengths (numbers 1 (length b.lengths)) in
-    let count : length ds ≡ length b.lengths = length-descriptors_of (data_place q.base head) b.readable_pieces b.lengths (numbers 1 (length b.lengths)) in
+    let table : ℕ = table_address q.base head in
+    let ds : List Descriptor = descriptors_of (data_address q.base head) b.readable_pieces b.lengths (numbers 1 (length b.lengths)) in
+    let count : length ds ≡ length b.lengths = length-descriptors_of (data_address q.base head) b.readable_pieces b.lengths (numbers 1 (length b.lengths)) in
     let long : length (table_bytes ds) ≡ 16 * length ds = length-table_bytes ds in
     let named : List ℕ = descriptor_bytes (naming table (length b.lengths)) in
     let sixteen : length named ≡ 16 = refl in
@@ -83,14 +84,14 @@ indirect_within q b head few low =
 
 -- memory after these puts: the table, and the descriptor that names it
 record IsNamed (mem : List ℕ) (q : DriverQueue) (head count : ℕ) (bytes : List ℕ) : Type 0 where
-  pub named : descriptor_at mem q.base head ≡ naming (table_place q.base head) count
-  pub table : part mem (table_place q.base head) (length bytes) ≡ bytes
+  pub named : descriptor_at mem q.base head ≡ naming (table_address q.base head) count
+  pub table : part mem (table_address q.base head) (length bytes) ≡ bytes
 
 -- these puts leave that
 named_after : (mem : List ℕ) (q : DriverQueue) (head count : ℕ) (bytes : List ℕ) → q.base ≤ 0x5000000 → q.base + 0x1000000 ≤ length mem → head < 1024 → count ≤ 8 → length bytes ≡ 16 * count
-    → IsNamed (written (Put (table_place q.base head) bytes ∷ Put (q.base + 16 * head) (descriptor_bytes (naming (table_place q.base head) count)) ∷ []) mem) q head count bytes
+    → IsNamed (written (Put (table_address q.base head) bytes ∷ Put (q.base + 16 * head) (descriptor_bytes (naming (table_address q.base head) count)) ∷ []) mem) q head count bytes
 named_after mem q head count bytes low_base inside low few long =
-    let table : ℕ = table_place q.base head in
+    let table : ℕ = table_address q.base head in
     let d : Descriptor = naming table count in
     let sixteen : length (descriptor_bytes d) ≡ 16 = length-descriptor_bytes d in
     let first : List ℕ = put_at mem table bytes in
@@ -107,14 +108,14 @@ named_after mem q head count bytes low_base inside low few long =
     }
 
 -- and with those that make the buffer available its chain
-pub indirect_after : (mem : List ℕ) (q : DriverQueue) (b : PostedBuffer) (head : ℕ) → IsInMemory (length mem) q → IsPostable b → b.indirect ≡ true → q.cfg.indirect ≡ true → length b.lengths ≤ q.cfg.size → head < q.cfg.size
+pub indirect_after : (mem : List ℕ) (q : DriverQueue) (b : PostedBuffer) (head : ℕ) → IsInMemory (length mem) q.cfg q.base → IsPostable b → b.indirect ≡ true → q.cfg.indirect ≡ true → length b.lengths ≤ q.cfg.size → head < q.cfg.size
     → IsChain (written (available_puts q head) (written (indirect_puts q b head) mem)) q b head
 indirect_after mem q b head ring postable indirect offered fits low =
     let count : ℕ = length b.lengths in
-    let table : ℕ = table_place q.base head in
-    let places : List ℕ = numbers 1 count in
-    let ds : List Descriptor = descriptors_of (data_place q.base head) b.readable_pieces b.lengths places in
-    let many : length ds ≡ count = length-descriptors_of (data_place q.base head) b.readable_pieces b.lengths places in
+    let table : ℕ = table_address q.base head in
+    let locations : List ℕ = numbers 1 count in
+    let ds : List Descriptor = descriptors_of (data_address q.base head) b.readable_pieces b.lengths locations in
+    let many : length ds ≡ count = length-descriptors_of (data_address q.base head) b.readable_pieces b.lengths locations in
     let bytes : List ℕ = table_bytes ds in
     let long : length bytes ≡ 16 * length ds = length-table_bytes ds in
     let few : count ≤ 8 = postable.few in
@@ -137,6 +138,6 @@ indirect_after mem q b head ring postable indirect offered fits low =
     ∙ part-written (driver_area q.base) 0x2000 (available_puts q head) after table (length bytes) (omega arith) puts (inl (omega arith))
     ∙ facts.table
     in
-    let below : All (λ k. k < 2 ^ 16) places = all_from_members (λ k. k < 2 ^ 16) places (λ k m. let (from, to) = is_in_numbers k 1 count m in omega arith) in
+    let below : All (λ k. k < 2 ^ 16) locations = all_from_members (λ k. k < 2 ^ 16) locations (λ k m. let (from, to) = is_in_numbers k 1 count m in omega arith) in
     indirect_chain last q b head table indirect offered postable.some few fits low (omega arith) named
-    (table_reads last table 0 (suc count) ds (omega arith) (buffer_fits q b head places (length mem) ring postable (omega arith) below) held)
+    (table_reads last table 0 (suc count) ds (omega arith) (buffer_fits q b head locations (length mem) ring postable (omega arith) below) held)

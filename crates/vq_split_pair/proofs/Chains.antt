@@ -1,4 +1,4 @@
--- The descriptors of a posted buffer, read at their places, make the chain.
+-- The descriptors of a posted buffer, read at their locations, make the chain.
 use Rattle.std.proofs.Common.{◌≡◌, ℕ, zero, suc, ◌+◌, ◌-◌, ◌^◌, ◌<◌, ◌≤◌, List, [], ◌∷◌, length, eqb, take, drop, Bool, true, false, Some, None, refl, ◌∙◌, ap, arith}
 use Rattle.std.specs.Prelude.{All, nat_lt, option_map, sum}
 use Rattle.std.proofs.lemmas.Bool.{cond-true, lt-ltb}
@@ -8,7 +8,7 @@ use Rattle.vq_common.specs.declared.descriptor.Descriptor.{Descriptor}
 use Rattle.vq_common.specs.Descriptor.{chain_from, and_following, descriptor_at, has_next, flags_of}
 use Rattle.vq_common.proofs.DescriptorLaws.{Fits}
 use Rattle.vq_split_drv.specs.Post.{descriptors_of}
-use Rattle.vq_split_pair.proofs.Placed.{AreAt}
+use Rattle.vq_split_pair.proofs.Located.{AreAt}
 use Rattle.vq_posted.specs.Free.{head_of}
 
 -- no other descriptor follows a last one
@@ -21,14 +21,14 @@ more_flags : (write : Bool) → has_next (flags_of true write) ≡ true
 more_flags true = refl
 more_flags false = refl
 
--- the chain at a place of the table whose descriptor is the last one
+-- the chain at a location of the table whose descriptor is the last one
 chain_last : (left : ℕ) (mem : List ℕ) (table count n : ℕ) (d : Descriptor) → n < count → descriptor_at mem table n ≡ d → has_next d.flags ≡ false → chain_from (suc left) mem table count n ≡ Some (d ∷ [])
 chain_last left mem table count n d inside is last =
     cond-true (nat_lt n count) (and_following (descriptor_at mem table n) (λ next. chain_from left mem table count next)) None (lt-ltb n count inside)
     ∙ ap (λ (e : Descriptor). and_following e (λ next. chain_from left mem table count next)) is
     ∙ rw last refl
 
--- the chain at a place whose descriptor names the next
+-- the chain at a location whose descriptor names the next
 chain_more : (left : ℕ) (mem : List ℕ) (table count n : ℕ) (d : Descriptor) (ds : List Descriptor) → n < count → descriptor_at mem table n ≡ d → has_next d.flags ≡ true
     → chain_from left mem table count d.next ≡ Some ds → chain_from (suc left) mem table count n ≡ Some (d ∷ ds)
 chain_more left mem table count n d ds inside is more rest =
@@ -41,13 +41,13 @@ pub chain_one : (left : ℕ) (mem : List ℕ) (table count n : ℕ) (d : Descrip
 chain_one zero mem table count n d some inside is last = absurd (omega arith)
 chain_one (suc left) mem table count n d some inside is last = chain_last left mem table count n d inside is last
 
--- the descriptors of pieces, read at their places, make a chain
-pub chain_reads : (addr readable : ℕ) (lengths : List ℕ) (n : ℕ) (places : List ℕ) (left : ℕ) (mem : List ℕ) (table count : ℕ) → 1 ≤ length lengths → length lengths ≤ left → length lengths ≤ suc (length places)
-    → All (λ n. n < count) (take (length lengths) (n ∷ places)) → AreAt mem table (n ∷ places) (descriptors_of addr readable lengths places)
-    → chain_from left mem table count n ≡ Some (descriptors_of addr readable lengths places)
-chain_reads addr readable [] n places left mem table count some few enough below at = absurd (omega arith)
-chain_reads addr readable (len ∷ lens) n places zero mem table count some few enough below at = absurd (omega arith)
-chain_reads addr readable (len ∷ []) n places (suc left) mem table count some few enough below at =
+-- the descriptors of pieces, read at their locations, make a chain
+pub chain_reads : (addr readable : ℕ) (lengths : List ℕ) (n : ℕ) (locations : List ℕ) (left : ℕ) (mem : List ℕ) (table count : ℕ) → 1 ≤ length lengths → length lengths ≤ left → length lengths ≤ suc (length locations)
+    → All (λ n. n < count) (take (length lengths) (n ∷ locations)) → AreAt mem table (n ∷ locations) (descriptors_of addr readable lengths locations)
+    → chain_from left mem table count n ≡ Some (descriptors_of addr readable lengths locations)
+chain_reads addr readable [] n locations left mem table count some few enough below at = absurd (omega arith)
+chain_reads addr readable (len ∷ lens) n locations zero mem table count some few enough below at = absurd (omega arith)
+chain_reads addr readable (len ∷ []) n locations (suc left) mem table count some few enough below at =
     chain_last left mem table count n (record { addr = addr; len = len; flags = flags_of false (eqb readable 0); next = 0 }) (All-head (λ n. n < count) n [] below) at.0 (last_flags (eqb readable 0))
 chain_reads addr readable (len ∷ more ∷ rest) n [] (suc left) mem table count some few enough below at = absurd (omega arith)
 chain_reads addr readable (len ∷ more ∷ rest) n (p ∷ ps) (suc left) mem table count some few enough below at =
@@ -55,13 +55,13 @@ chain_reads addr readable (len ∷ more ∷ rest) n (p ∷ ps) (suc left) mem ta
     chain_more left mem table count n (record { addr = addr; len = len; flags = flags_of true (eqb readable 0); next = p }) others (All-head (λ n. n < count) n (take (length (more ∷ rest)) (p ∷ ps)) below) at.0 (more_flags (eqb readable 0))
     (chain_reads (addr + len) (readable - 1) (more ∷ rest) p ps left mem table count (omega arith) (omega arith) (omega arith) (All-tail (λ n. n < count) n (take (length (more ∷ rest)) (p ∷ ps)) below) at.1)
 
--- the first of places below a bound is below it, and 0 where there is none
-head_below : (bound : ℕ) (places : List ℕ) → 1 ≤ bound → All (λ n. n < bound) places → head_of places < bound
+-- the first of locations below a bound is below it, and 0 where there is none
+head_below : (bound : ℕ) (locations : List ℕ) → 1 ≤ bound → All (λ n. n < bound) locations → head_of locations < bound
 head_below bound [] some below = some
 head_below bound (n ∷ ns) some below = All-head (λ n. n < bound) n ns below
 
 -- so are the others
-others_below : (bound : ℕ) (places : List ℕ) → All (λ n. n < bound) places → All (λ n. n < bound) (drop 1 places)
+others_below : (bound : ℕ) (locations : List ℕ) → All (λ n. n < bound) locations → All (λ n. n < bound) (drop 1 locations)
 others_below bound [] below = below
 others_below bound (n ∷ ns) below = All-tail (λ n. n < bound) n ns below
 
@@ -73,14 +73,14 @@ flags_fit false true = omega arith
 flags_fit false false = omega arith
 
 -- the fields of the descriptors of pieces fit their widths
-pub descriptors_fit : (addr readable : ℕ) (lengths places : List ℕ) → addr + sum lengths < 2 ^ 64 → All (λ n. n < 2 ^ 32) lengths → All (λ n. n < 2 ^ 16) places → All Fits (descriptors_of addr readable lengths places)
-descriptors_fit addr readable [] places low short below = All-nil Fits
-descriptors_fit addr readable (len ∷ []) places low short below =
+pub descriptors_fit : (addr readable : ℕ) (lengths locations : List ℕ) → addr + sum lengths < 2 ^ 64 → All (λ n. n < 2 ^ 32) lengths → All (λ n. n < 2 ^ 16) locations → All Fits (descriptors_of addr readable lengths locations)
+descriptors_fit addr readable [] locations low short below = All-nil Fits
+descriptors_fit addr readable (len ∷ []) locations low short below =
     let total : sum (len ∷ []) ≡ len + 0 = sum_by-cons (λ x. x) len [] in
     All-cons Fits (record { addr = addr; len = len; flags = flags_of false (eqb readable 0); next = 0 }) []
     (record { addr = omega arith; len = All-head (λ n. n < 2 ^ 32) len [] short; flags = flags_fit false (eqb readable 0); next = omega arith }) (All-nil Fits)
-descriptors_fit addr readable (len ∷ more ∷ rest) places low short below =
+descriptors_fit addr readable (len ∷ more ∷ rest) locations low short below =
     let total : sum (len ∷ more ∷ rest) ≡ len + sum (more ∷ rest) = sum_by-cons (λ x. x) len (more ∷ rest) in
-    All-cons Fits (record { addr = addr; len = len; flags = flags_of true (eqb readable 0); next = head_of places }) (descriptors_of (addr + len) (readable - 1) (more ∷ rest) (drop 1 places))
-    (record { addr = omega arith; len = All-head (λ n. n < 2 ^ 32) len (more ∷ rest) short; flags = flags_fit true (eqb readable 0); next = head_below (2 ^ 16) places (omega arith) below })
-    (descriptors_fit (addr + len) (readable - 1) (more ∷ rest) (drop 1 places) (omega arith) (All-tail (λ n. n < 2 ^ 32) len (more ∷ rest) short) (others_below (2 ^ 16) places below))
+    All-cons Fits (record { addr = addr; len = len; flags = flags_of true (eqb readable 0); next = head_of locations }) (descriptors_of (addr + len) (readable - 1) (more ∷ rest) (drop 1 locations))
+    (record { addr = omega arith; len = All-head (λ n. n < 2 ^ 32) len (more ∷ rest) short; flags = flags_fit true (eqb readable 0); next = head_below (2 ^ 16) locations (omega arith) below })
+    (descriptors_fit (addr + len) (readable - 1) (more ∷ rest) (drop 1 locations) (omega arith) (All-tail (λ n. n < 2 ^ 32) len (more ∷ rest) short) (others_below (2 ^ 16) locations below))

@@ -4,7 +4,7 @@ pub mod Chains
 pub mod Meeting
 pub mod Outcomes
 pub mod Pieces
-pub mod Placed
+pub mod Located
 pub mod PostParts
 pub mod Tables
 pub mod WalkLaws

@@ -17,7 +17,7 @@ use Rattle.vq_split_pair.proofs.Written.{written}
 -- a post over guest memory that did not answer Full leaves a ring that shows the buffer next
 pub post_shows : {E : Type 0} (r : Result (Unit {0}) E) (q q2 : DriverQueue) (b : PostedBuffer) (mem mem2 : List ℕ)
     → run memory_table (λ mem. mem) (post_program split_post_accesses split_posted q b) mem ≡ ((is_ok r, q2), mem2)
-    → IsInMemory (length mem) q → IsSplitQueue q → IsPostable b → (IsTrue b.indirect → length b.lengths ≤ q.cfg.size) → (IsTrue b.indirect → IsTrue q.cfg.indirect)
+    → IsInMemory (length mem) q.cfg q.base → IsSplitQueue q → IsPostable b → (IsTrue b.indirect → length b.lengths ≤ q.cfg.size) → (IsTrue b.indirect → IsTrue q.cfg.indirect)
     → OnOk r ((d : DeviceQueue) → HasTakenAll q d → ShowsBuffer mem2 d b)
 post_shows (Err e) q q2 b mem mem2 ran ring is postable table feature = tt
 post_shows (Ok x) q q2 b mem mem2 ran ring is postable table feature = λ d taken.

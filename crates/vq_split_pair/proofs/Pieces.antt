@@ -1,5 +1,5 @@
 -- The pieces that the descriptors of a posted buffer name.
-use Rattle.std.proofs.Common.{◌≡◌, ℕ, zero, suc, ◌+◌, ◌-◌, ◌≤◌, List, [], ◌∷◌, ◌++◌, length, take, drop, map, eqb, Bool, true, false, not, IsTrue, Some, None, refl, sym, ◌∙◌, ap, arith}
+use Rattle.std.proofs.Common.{◌≡◌, ℕ, zero, suc, ◌+◌, ◌-◌, ◌≤◌, List, [], ◌∷◌, ◌++◌, length, take, drop, map, eqb, Bool, true, false, not, IsTrue, Some, None, refl, sym, ◌∙◌, ap, subst, arith}
 use Rattle.std.specs.Prelude.{All, option_map, sum}
 use Rattle.std.specs.List.{list_all}
 use Rattle.std.proofs.lemmas.Bool.{and_parts, cond-true, ne_eqb, not-true}
@@ -11,19 +11,22 @@ use Rattle.vt_types.specs.Operation.{PostedBuffer}
 use Rattle.vq_common.specs.declared.chain.Piece.{Piece}
 use Rattle.vq_common.specs.declared.chain.RingCfg.{RingCfg}
 use Rattle.vq_common.specs.declared.descriptor.Descriptor.{Descriptor}
-use Rattle.vq_common.specs.Buffer.{IsPieceLength, IsPostable}
+use Rattle.vt_types.specs.Within.{IsPieceWithin}
+use Rattle.vq_common.specs.Buffer.{IsPostable}
 use Rattle.vq_common.specs.Descriptor.{is_indirect, is_write, piece_of, flags_of}
-use Rattle.vq_common.specs.Piece.{is_readable_first, keeps_rules, length_of_all, readable, room}
+use Rattle.vq_common.specs.Piece.{is_readable_first, keeps_rules, length_of_all, piece_at, pieces_from, readable, room}
+use Rattle.vq_common.proofs.PieceLaws.{length-pieces_from}
 use Rattle.vq_common.specs.Table.{pieces_if_direct}
 use Rattle.vq_common.proofs.RuleFacts.{IsPiece, rules_test}
 use Rattle.vq_split_dev.specs.Walk.{chain_pieces}
 use Rattle.vq_split_drv.specs.Post.{descriptors_of}
 
--- pieces that lie one after the other from an address on, the first `count` of them readable
-abbrev pub pieces_from : ℕ → ℕ → List ℕ → List Piece
-pieces_from addr count [] = []
-pieces_from addr zero (len ∷ lens) = record { addr = addr; len = len; write = true } ∷ pieces_from (addr + len) zero lens
-pieces_from addr (suc count) (len ∷ lens) = record { addr = addr; len = len; write = false } ∷ pieces_from (addr + len) count lens
+-- the first of pieces is readable where any is
+pub first_readable : (addr count len : ℕ) (lens : List ℕ) → pieces_from addr (suc count) (len ∷ lens) ≡ record { addr = addr; len = len; write = false } ∷ pieces_from (addr + len) count lens
+first_readable addr count len lens =
+    let some : eqb (suc count) 0 ≡ false = ne_eqb (suc count) 0 (λ e. absurd (omega arith)) in
+    let less : suc count - 1 ≡ count = omega arith in
+    rw (some, less) refl
 
 -- flags say what the device writes, whatever follows
 write_flags : (follows write : Bool) → is_write (flags_of follows write) ≡ write
@@ -40,23 +43,18 @@ direct_flags false true = refl
 direct_flags false false = refl
 
 -- the descriptors of a buffer name these pieces
-pub pieces_named : (addr count : ℕ) (lengths places : List ℕ) → map piece_of (descriptors_of addr count lengths places) ≡ pieces_from addr count lengths
-pieces_named addr count [] places = refl
-pieces_named addr zero (len ∷ []) places = refl
-pieces_named addr (suc count) (len ∷ []) places =
-    let some : eqb (suc count) 0 ≡ false = ne_eqb (suc count) 0 (λ e. absurd (omega arith)) in
-    rw some refl
-pieces_named addr zero (len ∷ more ∷ rest) places = ap (λ ps. record { addr = addr; len = len; write = true } ∷ ps) (pieces_named (addr + len) 0 (more ∷ rest) (drop 1 places))
-pieces_named addr (suc count) (len ∷ more ∷ rest) places =
-    let some : eqb (suc count) 0 ≡ false = ne_eqb (suc count) 0 (λ e. absurd (omega arith)) in
-    let less : suc count - 1 ≡ count = omega arith in
-    rw (some, less) (ap (λ ps. record { addr = addr; len = len; write = false } ∷ ps) (pieces_named (addr + len) count (more ∷ rest) (drop 1 places)))
+pub pieces_named : (addr count : ℕ) (lengths locations : List ℕ) → map piece_of (descriptors_of addr count lengths locations) ≡ pieces_from addr count lengths
+pieces_named addr count [] locations = refl
+pieces_named addr count (len ∷ []) locations = ap (λ w. record { addr = addr; len = len; write = w } ∷ []) (write_flags false (eqb count 0))
+pieces_named addr count (len ∷ more ∷ rest) locations =
+    ap (λ ps. record { addr = addr; len = len; write = is_write (flags_of true (eqb count 0)) } ∷ ps) (pieces_named (addr + len) (count - 1) (more ∷ rest) (drop 1 locations))
+    ∙ ap (λ w. record { addr = addr; len = len; write = w } ∷ pieces_from (addr + len) (count - 1) (more ∷ rest)) (write_flags true (eqb count 0))
 
 -- none of the descriptors names a table
-pub none_names_table : (addr count : ℕ) (lengths places : List ℕ) → IsTrue (list_all (λ (d : Descriptor). not (is_indirect d.flags)) (descriptors_of addr count lengths places))
-none_names_table addr count [] places = refl
-none_names_table addr count (len ∷ []) places = rw (direct_flags false (eqb count 0)) refl
-none_names_table addr count (len ∷ more ∷ rest) places = rw (direct_flags true (eqb count 0)) (none_names_table (addr + len) (count - 1) (more ∷ rest) (drop 1 places))
+pub none_names_table : (addr count : ℕ) (lengths locations : List ℕ) → IsTrue (list_all (λ (d : Descriptor). not (is_indirect d.flags)) (descriptors_of addr count lengths locations))
+none_names_table addr count [] locations = refl
+none_names_table addr count (len ∷ []) locations = rw (direct_flags false (eqb count 0)) refl
+none_names_table addr count (len ∷ more ∷ rest) locations = rw (direct_flags true (eqb count 0)) (none_names_table (addr + len) (count - 1) (more ∷ rest) (drop 1 locations))
 
 -- the pieces of descriptors none of which names a table
 direct_pieces : (mem : List ℕ) (c : RingCfg) (ds : List Descriptor) → IsTrue (list_all (λ (d : Descriptor). not (is_indirect d.flags)) ds) → chain_pieces mem c ds ≡ Some (map piece_of ds)
@@ -66,15 +64,15 @@ direct_pieces mem c (d ∷ ds) direct =
     rw (not-true (is_indirect d.flags) first) (ap (option_map (λ ps. piece_of d ∷ ps)) (direct_pieces mem c ds rest))
 
 -- so the pieces of a buffer's descriptors in a chain are these
-pub chain_pieces_are : (mem : List ℕ) (c : RingCfg) (addr count : ℕ) (lengths places : List ℕ) → chain_pieces mem c (descriptors_of addr count lengths places) ≡ Some (pieces_from addr count lengths)
-chain_pieces_are mem c addr count lengths places =
-    direct_pieces mem c (descriptors_of addr count lengths places) (none_names_table addr count lengths places) ∙ ap Some (pieces_named addr count lengths places)
+pub chain_pieces_are : (mem : List ℕ) (c : RingCfg) (addr count : ℕ) (lengths locations : List ℕ) → chain_pieces mem c (descriptors_of addr count lengths locations) ≡ Some (pieces_from addr count lengths)
+chain_pieces_are mem c addr count lengths locations =
+    direct_pieces mem c (descriptors_of addr count lengths locations) (none_names_table addr count lengths locations) ∙ ap Some (pieces_named addr count lengths locations)
 
 -- and so are those of its table
-pub table_pieces_are : (addr count : ℕ) (lengths places : List ℕ) → pieces_if_direct (Some (descriptors_of addr count lengths places)) ≡ Some (pieces_from addr count lengths)
-table_pieces_are addr count lengths places =
-    let ds : List Descriptor = descriptors_of addr count lengths places in
-    cond-true (list_all (λ (d : Descriptor). not (is_indirect d.flags)) ds) (Some (map piece_of ds)) None (none_names_table addr count lengths places) ∙ ap Some (pieces_named addr count lengths places)
+pub table_pieces_are : (addr count : ℕ) (lengths locations : List ℕ) → pieces_if_direct (Some (descriptors_of addr count lengths locations)) ≡ Some (pieces_from addr count lengths)
+table_pieces_are addr count lengths locations =
+    let ds : List Descriptor = descriptors_of addr count lengths locations in
+    cond-true (list_all (λ (d : Descriptor). not (is_indirect d.flags)) ds) (Some (map piece_of ds)) None (none_names_table addr count lengths locations) ∙ ap Some (pieces_named addr count lengths locations)
 
 -- a sum by its first number
 sum-cons : (n : ℕ) (ns : List ℕ) → sum (n ∷ ns) ≡ n + sum ns
@@ -90,7 +88,8 @@ pub readable_are : (mem : List ℕ) (addr count : ℕ) (lengths : List ℕ) → 
 readable_are mem addr zero lengths = readable_none mem addr lengths
 readable_are mem addr (suc count) [] = refl
 readable_are mem addr (suc count) (len ∷ lens) =
-    ap (λ (w : List ℕ). part mem addr len ++ w) (readable_are mem (addr + len) count lens)
+    ap (readable mem) (first_readable addr count len lens)
+    ∙ ap (λ (w : List ℕ). part mem addr len ++ w) (readable_are mem (addr + len) count lens)
     ∙ part-append-part mem addr len (sum (take count lens))
     ∙ ap (λ (n : ℕ). part mem addr n) (sym (sum-cons len (take count lens)))
 
@@ -103,35 +102,22 @@ room_all addr (len ∷ lens) = ap (λ (n : ℕ). len + n) (room_all (addr + len)
 pub room_is : (addr count : ℕ) (lengths : List ℕ) → room (pieces_from addr count lengths) ≡ sum (drop count lengths)
 room_is addr zero lengths = room_all addr lengths
 room_is addr (suc count) [] = refl
-room_is addr (suc count) (len ∷ lens) = room_is (addr + len) count lens
+room_is addr (suc count) (len ∷ lens) = ap room (first_readable addr count len lens) ∙ room_is (addr + len) count lens
 
--- they are as many as the lengths
-pub length-pieces_from : (addr count : ℕ) (lengths : List ℕ) → length (pieces_from addr count lengths) ≡ length lengths
-length-pieces_from addr count [] = refl
-length-pieces_from addr zero (len ∷ lens) = ap suc (length-pieces_from (addr + len) zero lens)
-length-pieces_from addr (suc count) (len ∷ lens) = ap suc (length-pieces_from (addr + len) count lens)
-
--- and their bytes together are the sum of these
+-- their bytes together are the sum of the lengths
 length_of_pieces : (addr count : ℕ) (lengths : List ℕ) → length_of_all (pieces_from addr count lengths) ≡ sum lengths
 length_of_pieces addr count [] = refl
-length_of_pieces addr zero (len ∷ lens) = ap (λ (n : ℕ). len + n) (length_of_pieces (addr + len) zero lens) ∙ sym (sum-cons len lens)
-length_of_pieces addr (suc count) (len ∷ lens) = ap (λ (n : ℕ). len + n) (length_of_pieces (addr + len) count lens) ∙ sym (sum-cons len lens)
+length_of_pieces addr count (len ∷ lens) = ap (λ (n : ℕ). len + n) (length_of_pieces (addr + len) (count - 1) lens) ∙ sym (sum-cons len lens)
 
 -- each is a piece that the rules allow
-each_allowed : (memory addr count : ℕ) (lengths : List ℕ) → All IsPieceLength lengths → addr + sum lengths ≤ memory → All (IsPiece memory) (pieces_from addr count lengths)
+each_allowed : (memory addr count : ℕ) (lengths : List ℕ) → All IsPieceWithin lengths → addr + sum lengths ≤ memory → All (IsPiece memory) (pieces_from addr count lengths)
 each_allowed memory addr count [] each inside = All-nil (IsPiece memory)
-each_allowed memory addr zero (len ∷ lens) each inside =
-    let this : IsPieceLength len = All-head IsPieceLength len lens each in
+each_allowed memory addr count (len ∷ lens) each inside =
+    let this : IsPieceWithin len = All-head IsPieceWithin len lens each in
     let total : sum (len ∷ lens) ≡ len + sum lens = sum-cons len lens in
-    All-cons (IsPiece memory) (record { addr = addr; len = len; write = true }) (pieces_from (addr + len) zero lens)
+    All-cons (IsPiece memory) (piece_at addr count len) (pieces_from (addr + len) (count - 1) lens)
     (record { some = this.low; few = this.high; inside = omega arith })
-    (each_allowed memory (addr + len) zero lens (All-tail IsPieceLength len lens each) (omega arith))
-each_allowed memory addr (suc count) (len ∷ lens) each inside =
-    let this : IsPieceLength len = All-head IsPieceLength len lens each in
-    let total : sum (len ∷ lens) ≡ len + sum lens = sum-cons len lens in
-    All-cons (IsPiece memory) (record { addr = addr; len = len; write = false }) (pieces_from (addr + len) count lens)
-    (record { some = this.low; few = this.high; inside = omega arith })
-    (each_allowed memory (addr + len) count lens (All-tail IsPieceLength len lens each) (omega arith))
+    (each_allowed memory (addr + len) (count - 1) lens (All-tail IsPieceWithin len lens each) (omega arith))
 
 -- writable pieces are writable
 all_writable : (addr : ℕ) (lengths : List ℕ) → IsTrue (list_all (λ q. q.write) (pieces_from addr 0 lengths))
@@ -142,7 +128,7 @@ all_writable addr (len ∷ lens) = all_writable (addr + len) lens
 in_order : (addr count : ℕ) (lengths : List ℕ) → IsTrue (is_readable_first (pieces_from addr count lengths))
 in_order addr count [] = refl
 in_order addr zero (len ∷ lens) = all_writable (addr + len) lens
-in_order addr (suc count) (len ∷ lens) = in_order (addr + len) count lens
+in_order addr (suc count) (len ∷ lens) = subst (λ ps. IsTrue (is_readable_first ps)) (sym (first_readable addr count len lens)) (in_order (addr + len) count lens)
 
 -- so the pieces keep the rules of a chain
 pub pieces_keep_rules : (memory addr : ℕ) (b : PostedBuffer) → IsPostable b → addr + sum b.lengths ≤ memory → IsTrue (keeps_rules memory (pieces_from addr b.readable_pieces b.lengths))

@@ -9,7 +9,7 @@ use Rattle.vq_common.specs.Descriptor.{descriptor_bytes, descriptor_in}
 use Rattle.vq_common.proofs.DescriptorLaws.{Fits, length-descriptor_bytes, descriptor_in-descriptor_bytes}
 use Rattle.vq_split_drv.specs.Cost.{length-table_bytes}
 use Rattle.vq_split_drv.specs.Post.{table_bytes}
-use Rattle.vq_split_pair.proofs.Placed.{AreAt}
+use Rattle.vq_split_pair.proofs.Located.{AreAt}
 use Rattle.vq_posted.specs.Free.{numbers}
 
 -- where a part of memory is joined bytes, its front is the first of them
@@ -29,7 +29,7 @@ part_back m a j k xs ys long long2 is =
     ∙ part-append_right xs ys j 0 k long
     ∙ part_all ys k long2
 
--- the descriptors of a table are read at its places in order
+-- the descriptors of a table are read at its locations in order
 pub table_reads : (mem : List ℕ) (table from count : ℕ) (ds : List Descriptor) → length ds ≤ count → All Fits ds → part mem (table + 16 * from) (16 * length ds) ≡ table_bytes ds
     → AreAt mem table (numbers from count) ds
 table_reads mem table from count [] few fits is = tt
@@ -37,10 +37,10 @@ table_reads mem table from zero (d ∷ ds) few fits is = absurd (omega arith)
 table_reads mem table from (suc count) (d ∷ ds) few fits is =
     let long : length (descriptor_bytes d) ≡ 16 = length-descriptor_bytes d in
     let count2 : 16 * length (d ∷ ds) ≡ 16 + 16 * length ds = omega arith in
-    let place : table + 16 * from + 16 ≡ table + 16 * (from + 1) = omega arith in
+    let location : table + 16 * from + 16 ≡ table + 16 * (from + 1) = omega arith in
     let whole : part mem (table + 16 * from) (16 + 16 * length ds) ≡ descriptor_bytes d ++ table_bytes ds = ap (λ (n : ℕ). part mem (table + 16 * from) n) (sym count2) ∙ is in
     let front : part mem (table + 16 * from) 16 ≡ descriptor_bytes d = part_front mem (table + 16 * from) 16 (16 * length ds) (descriptor_bytes d) (table_bytes ds) long whole in
     let back : part mem (table + 16 * from + 16) (16 * length ds) ≡ table_bytes ds = part_back mem (table + 16 * from) 16 (16 * length ds) (descriptor_bytes d) (table_bytes ds) long (length-table_bytes ds) whole in (
       ap descriptor_in front ∙ descriptor_in-descriptor_bytes d (All-head Fits d ds fits),
-      table_reads mem table (from + 1) count ds (omega arith) (All-tail Fits d ds fits) (ap (λ (a : ℕ). part mem a (16 * length ds)) (sym place) ∙ back),
+      table_reads mem table (from + 1) count ds (omega arith) (All-tail Fits d ds fits) (ap (λ (a : ℕ). part mem a (16 * length ds)) (sym location) ∙ back),
     )

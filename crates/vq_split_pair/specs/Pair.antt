@@ -1,16 +1,17 @@
 use Rattle.std.specs.Prelude.{◌≡◌, ℕ, ◌+◌, ◌≤◌, List, drop, sum, IsTrue}
 use Rattle.vt_types.specs.Operation.{PostedBuffer}
+use Rattle.vq_common.specs.declared.chain.RingCfg.{RingCfg}
 use Rattle.vq_common.specs.Chain.{ChainValue, Front}
-use Rattle.vq_common.specs.Map.{BLOCK_LEN}
+use Rattle.vt_types.specs.Device.{BLOCK_LEN}
 use Rattle.vq_common.specs.Piece.{readable, room}
-use Rattle.vq_common.specs.Queue.{DriverQueue, DeviceQueue, IsPlaced, is_ring_size, slots_of}
+use Rattle.vq_common.specs.Queue.{DriverQueue, DeviceQueue, IsInBlock, is_ring_size, slots_of}
 use Rattle.vq_split_dev.specs.Walk.{split_walk}
 
--- a driver's queue whose block lies inside a memory of this length, and whose ring is that of the block
-pub record IsInMemory (memory : ℕ) (q : DriverQueue) : Type 0 where
-  pub size : IsTrue (is_ring_size q.cfg.size)
-  pub placed : IsPlaced q.cfg q.base
-  pub inside : q.base + BLOCK_LEN ≤ memory
+-- a queue block lies inside a memory of this length, and this ring is that of the block
+pub record IsInMemory (memory : ℕ) (cfg : RingCfg) (base : ℕ) : Type 0 where
+  pub size : IsTrue (is_ring_size cfg.size)
+  pub in_block : IsInBlock cfg base
+  pub inside : base + BLOCK_LEN ≤ memory
 
 -- a device's record of the same ring, which has taken each chain that the driver made available so far
 pub record HasTakenAll (q : DriverQueue) (d : DeviceQueue) : Type 0 where

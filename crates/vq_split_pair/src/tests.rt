@@ -3,7 +3,7 @@
 ghost use Rattle.std.specs.Prelude.{◌≡◌, ◌≤◌, ◌^◌, IfOk, IsTrue, true, length};
 ghost use Rattle.vt_types.specs.Operation.{posted_buffer};
 ghost use Rattle.vq_common.specs.Buffer.{IsPostable};
-ghost use Rattle.vq_common.specs.Queue.{IsPlaced, is_ring_size};
+ghost use Rattle.vq_common.specs.Queue.{IsInBlock, is_ring_size};
 
 use crate::post;
 use arrayvec::ArrayVec;
@@ -12,10 +12,10 @@ use memory_port::MemoryPort;
 use std::alloc::Global;
 use std::process::Abort;
 use std::test::Fail;
-use vq_common::map::{DEVICE_AREA, DRIVER_AREA};
 use vq_common::{DeviceEnd, DriverEnd, Full, Reaped, RingCfg, Take};
 use vq_split_dev::SplitDevice;
 use vq_split_drv::SplitDriver;
+use vt_layout::queue_block::{DEVICE_AREA, DRIVER_AREA};
 use vt_types::{Bytes, Memory, PostBuf, Room};
 
 /// Where the queue block begins.
@@ -30,7 +30,7 @@ fn ring(size: u16, event_idx: bool) -> RingCfg
     ensures size { result.size ≡ size }
     ensures allowed { IsTrue (is_ring_size result.size) }
     ensures indirect { result.indirect ≡ true }
-    ensures placed { IsPlaced result BASE }
+    ensures in_block { IsInBlock result BASE }
 {
     RingCfg {
         desc: BASE,

@@ -1,2 +1,5 @@
+pub mod Fields
+pub mod Interrupts
 pub mod Layout
 pub mod Mmio
+pub mod QueueBlock

@@ -1,4 +1,4 @@
-//! A register by its place in a page.
+//! A register by its location in a page.
 
 ghost use Rattle.std.specs.Prelude.{◌≡◌, ◌+◌};
 ghost use Rattle.vt_layout.specs.Layout.{find_from, covering_from};

@@ -6,6 +6,7 @@ ghost use Rattle.std.proofs.Common.{lit<};
 ghost use Rattle.vt_layout.specs.Mmio as spec;
 
 use crate::layout::{CommonRegs, RegisterLayout, Row};
+use crate::register::MmioRegister;
 use vt_types::Dev;
 
 /// The offset of a page at which the device's configuration begins (VIRTIO 1.2, 4.2.2).
@@ -27,20 +28,15 @@ pub fn page_address(dev: Dev) -> u32
     0x4000_0000 + number * PAGE_LENGTH
 }
 
+/// The address of a byte of a device's configuration.
+pub fn config_address(dev: Dev, off: u16) -> u32
+    ensures { result ≡ spec.config_address dev off }
+{
+    page_address(dev) + CONFIGURATION + u32::from(off)
+}
+
 /// The page of a device on MMIO.
 pub struct Mmio;
-
-/// A register of 32 bits.
-fn register(off: u32, load: bool, store: bool) -> Row
-    ensures { result ≡ record { off = off; width = 4; load = load; store = store } }
-{
-    Row {
-        off,
-        width: 4,
-        load,
-        store,
-    }
-}
 
 impl RegisterLayout for Mmio {
     ghost rows = { spec.mmio_rows };
@@ -54,32 +50,9 @@ impl RegisterLayout for Mmio {
     const COUNT: u32 = 25;
 
     fn row(n: u32) -> Row {
-        match n {
-            0 => register(0x000, true, false),
-            1 => register(0x004, true, false),
-            2 => register(0x008, true, false),
-            3 => register(0x00c, true, false),
-            4 => register(0x010, true, false),
-            5 => register(0x014, false, true),
-            6 => register(0x020, false, true),
-            7 => register(0x024, false, true),
-            8 => register(0x030, false, true),
-            9 => register(0x034, true, false),
-            10 => register(0x038, false, true),
-            11 => register(0x044, true, true),
-            12 => register(0x050, false, true),
-            13 => register(0x060, true, false),
-            14 => register(0x064, false, true),
-            15 => register(0x070, true, true),
-            16 => register(0x080, false, true),
-            17 => register(0x084, false, true),
-            18 => register(0x090, false, true),
-            19 => register(0x094, false, true),
-            20 => register(0x0a0, false, true),
-            21 => register(0x0a4, false, true),
-            22 => register(0x0b0, true, false),
-            23 => register(0x0b4, true, false),
-            _ => register(0x0fc, true, false),
+        match MmioRegister::of_row(n) {
+            Some(register) => register.row(),
+            None => MmioRegister::ConfigGeneration.row(),
         }
     }
 

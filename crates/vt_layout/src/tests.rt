@@ -1,3 +1,4 @@
+use crate::queue_block::map_is_defined;
 use crate::{CommonRegs, Mmio, RegisterLayout, covering, find, page_address};
 use vt_types::Dev;
 
@@ -25,6 +26,7 @@ fn registers_by_offset(rt: HostRuntime) {
     ] {
         assert_eq!(rt; covering::<Mmio>(off), number, "{off:x}");
     }
+    map_is_defined();
     assert_eq!(rt; Mmio::COUNT, 25);
     assert_eq!(rt; page_address(Dev::Con), 0x4000_2000);
 }

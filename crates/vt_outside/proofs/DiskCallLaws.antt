@@ -19,7 +19,7 @@ asked_state : (old new : TrippedView) (result : Result Unit Failed) (image : Lis
     → Takes old.disk new.disk before after → ask (state_of old image before) ≡ (is_ok result, state_of new image after)
 asked_state old new result image before after called trip takes =
     let taken = takes_one old.disk new.disk result before after called takes in
-    rw (taken.0, taken.1, called.locked, trip) refl
+    rw (taken.0, taken.1, called.read_only, trip) refl
 
 -- a call with a trip
 called_state : (old new : TrippedView) (result : Result Unit Failed) (image : List (List ℕ)) (before after : List Bool) → TripCalled old new result
@@ -36,7 +36,7 @@ called_state old new result image before after called takes =
           let test : (old.trip == 1) ≡ false = grind (arith, nat_tests) in
           let asked = called.asked other in
           let taken = takes_one old.disk new.disk result before after asked takes in
-          rw (test, taken.0, taken.1, asked.locked, called.trip) refl
+          rw (test, taken.0, taken.1, asked.read_only, called.trip) refl
     ]
 
 -- what a call with a trip leaves

@@ -27,13 +27,13 @@ extends_one (Some x) (Some y) ok h = (ok ∷ [], h)
 
 -- nothing was asked
 pub goes_still : (d : DiskView) → Goes d d
-goes_still d = record { count = refl; locked = refl; later = omega arith; tells = refl; outcomes = extends_still d.outcomes }
+goes_still d = record { count = refl; read_only = refl; later = omega arith; tells = refl; outcomes = extends_still d.outcomes }
 
 -- one call after another
 pub goes_then : (a b c : DiskView) → Goes a b → Goes b c → Goes a c
 goes_then a b c g h = record {
   count = h.count ∙ g.count;
-  locked = h.locked ∙ g.locked;
+  read_only = h.read_only ∙ g.read_only;
   later = omega arith;
   tells = h.tells ∙ g.tells;
   outcomes = extends_then a.outcomes b.outcomes c.outcomes g.outcomes h.outcomes;
@@ -43,7 +43,7 @@ goes_then a b c g h = record {
 pub goes_called : (a b : DiskView) (result : Result Unit Failed) → Called a b result → is_some b.image ≡ is_some a.image → Goes a b
 goes_called a b result called tells = record {
   count = called.count;
-  locked = called.locked;
+  read_only = called.read_only;
   later = called.later;
   tells = tells;
   outcomes = extends_one a.outcomes b.outcomes (is_ok result) called.outcomes;

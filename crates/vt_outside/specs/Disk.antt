@@ -8,7 +8,7 @@ pub record DiskView : Type 0 where
   pub image : Option (List (List ℕ))
   pub outcomes : Option (List Bool)
   pub count : ℕ
-  pub locked : Bool
+  pub read_only : Bool
   pub faults : ℕ
 
 -- where outcomes are told after a call, they were told before it, and the call added its own
@@ -20,7 +20,7 @@ AddsOutcome (Some old) (Some new) b = new ≡ old ++ b ∷ []
 -- a call of a disk: what never changes stayed, a failure counts and an Ok doesn't, and the outcome is told
 pub record Called (old new : DiskView) (result : Result Unit Failed) : Type 0 where
   pub count : new.count ≡ old.count
-  pub locked : new.locked ≡ old.locked
+  pub read_only : new.read_only ≡ old.read_only
   pub later : old.faults ≤ new.faults
   pub calm : OnOk result (new.faults ≡ old.faults)
   pub cause : OnErr result (Rose old.faults new.faults)

@@ -10,7 +10,7 @@ pub record FileView (F : Type 0) : Type 0 where
 
 -- as a disk it tells no more, and is never read-only
 abbrev pub file_disk : {F : Type 0} → FileView F → DiskView
-file_disk f = record { image = None; outcomes = None; count = f.count; locked = false; faults = f.faults }
+file_disk f = record { image = None; outcomes = None; count = f.count; read_only = false; faults = f.faults }
 
 -- the file was sought at sector n, where it tells its position
 abbrev pub SeeksSector : {F : Type 0} → (F → Option ℕ) → ℕ → F → F → Type 0

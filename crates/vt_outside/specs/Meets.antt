@@ -16,7 +16,7 @@ Extends (Some old) (Some new) = (added : List Bool) × (new ≡ old ++ added)
 -- what any calls of a disk leave, whatever the disk tells
 pub record Goes (old new : DiskView) : Type 0 where
   pub count : new.count ≡ old.count
-  pub locked : new.locked ≡ old.locked
+  pub read_only : new.read_only ≡ old.read_only
   pub later : old.faults ≤ new.faults
   pub tells : is_some new.image ≡ is_some old.image
   pub outcomes : Extends old.outcomes new.outcomes
@@ -32,7 +32,7 @@ IsImage disk image = (disk.image ≡ Some image) × (length image ≡ disk.count
 
 -- a disk that tells these sectors, with the outcomes that are still to come
 abbrev pub state_of : TrippedView → List (List ℕ) → List Bool → DiskState
-state_of v image outcomes = record { sectors = image; read_only = v.disk.locked; trip = v.trip; outcomes = outcomes }
+state_of v image outcomes = record { sectors = image; read_only = v.disk.read_only; trip = v.trip; outcomes = outcomes }
 
 -- the calls from one view of a disk to another did what f does, with the answer r: for a disk that tells its image, and
 -- with the outcomes that the calls took

@@ -1,4 +1,5 @@
 use Rattle.std.specs.Prelude.{◌≡◌, ℕ, zero, suc, ◌+◌, ◌-◌, ◌==◌, ◌&&◌, ◌||◌, List, [], ◌∷◌, ◌++◌, length, take, drop, replicate, Bool, true, false, not, Option, Some, None, Result, is_err, IfOk, OnErr, slice_get, if◌then◌else◌, min, nat_le}
+use Rattle.vt_types.specs.Limits.{LONGEST_BUFFER}
 use Rattle.vt_outside.specs.declared.failed.Failed.{Failed}
 use Rattle.vt_outside.specs.Faults.{last_count, count_up}
 use Rattle.vt_outside.specs.Source.{SourceView}
@@ -87,7 +88,7 @@ pub record WritesMemory (old new : SinkMemory) (bytes : List ℕ) (result : Resu
 -- a disk in memory: its sectors, whether it is read-only, and its calls
 pub record DiskMemory : Type 0 where
   pub sectors : List (List ℕ)
-  pub locked : Bool
+  pub read_only : Bool
   pub calls : CallsView
 
 -- a number of sectors of 512 zeros
@@ -101,7 +102,7 @@ disk_view m =
       image = Some m.sectors;
       outcomes = outcomes_told m.calls;
       count = length m.sectors;
-      locked = m.locked;
+      read_only = m.read_only;
       faults = m.calls.faults;
     }
 
@@ -109,7 +110,7 @@ disk_view m =
 pub record CallsMemory (old new : DiskMemory) (result : Result Unit Failed) : Type 0 where
   pub fails : is_err result ≡ next_fails old.calls
   pub calls : new.calls ≡ one_call old.calls (is_err result)
-  pub locked : new.locked ≡ old.locked
+  pub read_only : new.read_only ≡ old.read_only
 
 -- a watch in memory: the bytes that it keeps, and whether they are all that was shown
 pub record WatchMemory : Type 0 where
@@ -120,8 +121,8 @@ pub record WatchMemory : Type 0 where
 abbrev pub shown_of : WatchMemory → Option (List ℕ)
 shown_of w = if w.tells then Some w.bytes else None
 
--- a text is kept where the watch tells and has room for it (8,192 bytes in all); else the watch tells no more
+-- a text is kept where the watch tells and has room for it (`LONGEST_BUFFER` bytes in all); else the watch tells no more
 abbrev pub after_text : WatchMemory → List ℕ → WatchMemory
 after_text w text =
-    if w.tells && nat_le (length w.bytes + length text) 8192 then record { bytes = w.bytes ++ text; tells = true }
+    if w.tells && nat_le (length w.bytes + length text) LONGEST_BUFFER then record { bytes = w.bytes ++ text; tells = true }
     else record { bytes = w.bytes; tells = false }

@@ -2,6 +2,7 @@
 
 ghost use Rattle.std.specs.Prelude.{◌≡◌, ◌<◌, ◌≤◌, length, IfSome, OnOk, OnErr};
 ghost use Rattle.vt_outside.specs.Disk.{DiskView, Called, Reads, Writes};
+ghost use Rattle.vt_types.specs.Limits.{MOST_SECTORS};
 
 use crate::failed::Failed;
 
@@ -9,15 +10,15 @@ use crate::failed::Failed;
 pub trait Disk {
     ghost view: { Self → DiskView };
 
-    /// How many sectors the disk has: at most 65,536. It never changes.
+    /// How many sectors the disk has: at most `MOST_SECTORS`. It never changes.
     fn sectors(&self) -> u64
         ensures value { result ≡ (view self.now).count }
-        ensures bound { result ≤ 65536 }
+        ensures bound { result ≤ MOST_SECTORS }
         ensures whole { IfSome (view self.now).image (λ image. length image ≡ result) };
 
     /// Whether the disk is there to be read only. It never changes, and refuses nothing by itself.
     fn read_only(&self) -> bool
-        ensures { result ≡ (view self.now).locked };
+        ensures { result ≡ (view self.now).read_only };
 
     /// Reads sector `n`. `Failed` says nothing of the room.
     fn read_sector(&mut self, n: u64, room: &mut [u8; 512]) -> Result<(), Failed>

@@ -2,6 +2,7 @@
 
 ghost use Rattle.std.specs.Prelude.{◌≡◌, ◌<◌, OnOk};
 ghost use Rattle.std.specs.Io.KnownBytes.{Appends, Consumes};
+ghost use Rattle.vt_types.specs.Limits.{MOST_SECTORS};
 ghost use Rattle.vt_outside.specs.File.{SeeksSector, ReadsAt, WritesAt};
 
 use crate::disk::Disk;
@@ -21,13 +22,14 @@ pub struct FileDisk<F> {
 
 impl<F> Model for FileDisk<F> {
     ghost use Rattle.std.specs.Prelude.{◌≤◌};
+    ghost use Rattle.vt_types.specs.Limits.{MOST_SECTORS};
     ghost use Rattle.vt_outside.specs.File.{FileView};
 
     ghost Value = { FileView F };
 
     ghost view = { λ d. record { file = d.file; count = d.sectors; faults = d.faults } };
 
-    ghost invariant = { λ d. d.sectors ≤ 65536 };
+    ghost invariant = { λ d. d.sectors ≤ MOST_SECTORS };
 }
 
 /// Reads until the room is full.
@@ -60,7 +62,7 @@ fn put<W: Write>(writer: &mut W, bytes: &[u8]) -> Result<(), Failed>
 
 /// Goes to sector `n`.
 fn seek_sector<F: Seek>(file: &mut F, n: u64) -> Result<(), Failed>
-    requires { n < 65536 }
+    requires { n < MOST_SECTORS }
     ensures { OnOk result (SeeksSector F.stream_position n file.old file.new) }
 {
     match file.seek(SeekFrom::Start(n * 512)) {
@@ -71,7 +73,7 @@ fn seek_sector<F: Seek>(file: &mut F, n: u64) -> Result<(), Failed>
 
 /// Reads sector `n`.
 fn read_at<F: Read + Seek>(file: &mut F, n: u64, room: &mut [u8; 512]) -> Result<(), Failed>
-    requires { n < 65536 }
+    requires { n < MOST_SECTORS }
     ensures { OnOk result (ReadsAt F.stream_position F.remaining n file.old file.new room.new) }
 {
     seek_sector(file, n)?;
@@ -80,7 +82,7 @@ fn read_at<F: Read + Seek>(file: &mut F, n: u64, room: &mut [u8; 512]) -> Result
 
 /// Writes sector `n`.
 fn write_at<F: Write + Seek>(file: &mut F, n: u64, bytes: &[u8; 512]) -> Result<(), Failed>
-    requires { n < 65536 }
+    requires { n < MOST_SECTORS }
     ensures { OnOk result (WritesAt F.stream_position F.contents n file.old file.new bytes.now) }
 {
     seek_sector(file, n)?;
@@ -89,11 +91,12 @@ fn write_at<F: Write + Seek>(file: &mut F, n: u64, bytes: &[u8; 512]) -> Result<
 
 impl<F> FileDisk<F> {
     ghost use Rattle.std.specs.Prelude.{◌≡◌, ◌≤◌, is_err, if◌then◌else◌};
+    ghost use Rattle.vt_types.specs.Limits.{MOST_SECTORS};
     ghost use Rattle.vt_outside.specs.Faults.{count_up};
 
     /// A disk over this file, of so many sectors, of which no call has failed.
     pub fn new(file: F, sectors: u64) -> Self
-        requires { sectors ≤ 65536 }
+        requires { sectors ≤ MOST_SECTORS }
         ensures { result ≡ record { file = file; count = sectors; faults = 0 } }
     {
         FileDisk {

@@ -13,23 +13,25 @@ use vt_types::{Bytes, Memory};
 #[derive(Drop)]
 pub struct MemDisk {
     sectors: Vec<[u8; 512]>,
-    locked: bool,
+    read_only: bool,
     calls: Calls,
 }
 
 impl Model for MemDisk {
     ghost use Rattle.std.specs.Prelude.{◌≤◌, length};
+    ghost use Rattle.vt_types.specs.Limits.{MOST_SECTORS};
     ghost use Rattle.vt_outside.specs.Memory.{DiskMemory};
 
     ghost Value = { DiskMemory };
 
-    ghost view = { λ m. record { sectors = m.sectors.items; locked = m.locked; calls = m.calls } };
+    ghost view = { λ m. record { sectors = m.sectors.items; read_only = m.read_only; calls = m.calls } };
 
-    ghost invariant = { λ m. length m.sectors.items ≤ 65536 };
+    ghost invariant = { λ m. length m.sectors.items ≤ MOST_SECTORS };
 }
 
 impl MemDisk {
     ghost use Rattle.std.specs.Prelude.{◌≡◌, ◌≤◌, IfOk};
+    ghost use Rattle.vt_types.specs.Limits.{MOST_SECTORS};
     ghost use Rattle.vt_outside.specs.Memory.{no_calls, zeros};
 
     /// A disk of so many sectors, all zeros. Call number k (from 0) of `read_sector`, `write_sector` and `flush` fails
@@ -40,8 +42,8 @@ impl MemDisk {
         read_only: bool,
         fails: Bytes,
     ) -> Result<MemDisk, Memory>
-        requires { sectors ≤ 65536 }
-        ensures { IfOk result (λ m. m ≡ record { sectors = zeros sectors; locked = read_only; calls = no_calls fails }) }
+        requires { sectors ≤ MOST_SECTORS }
+        ensures { IfOk result (λ m. m ≡ record { sectors = zeros sectors; read_only = read_only; calls = no_calls fails }) }
     {
         let mut all = Vec::with_capacity(alloc, sectors as usize)?;
         'sectors: for _made in 0..sectors {
@@ -49,7 +51,7 @@ impl MemDisk {
         }
         Ok(MemDisk {
             sectors: all,
-            locked: read_only,
+            read_only,
             calls: Calls::new(fails),
         })
     }
@@ -75,7 +77,7 @@ impl Disk for MemDisk {
     }
 
     fn read_only(&self) -> bool {
-        self.locked
+        self.read_only
     }
 
     fn read_sector(&mut self, n: u64, room: &mut [u8; 512]) -> Result<(), Failed>

@@ -3,11 +3,12 @@
 use crate::watch::Watch;
 use arrayvec::ArrayVec;
 use std::marker::Model;
+use vt_types::LONGEST_BUFFER;
 
-/// Keeps what it is shown, up to 8,192 bytes in all. Once a text doesn't fit, it tells no more. It takes no memory.
+/// Keeps what it is shown, up to `LONGEST_BUFFER` bytes in all. Once a text doesn't fit, it tells no more. It takes no memory.
 #[derive(Drop)]
 pub struct MemWatch {
-    kept: ArrayVec<u8, 8192>,
+    kept: ArrayVec<u8, LONGEST_BUFFER>,
     whole: bool,
 }
 

@@ -22,6 +22,7 @@ impl<D: Disk> Model for Tripped<D> {
 
 impl<D: Disk> Tripped<D> {
     ghost use Rattle.std.specs.Prelude.{◌≡◌, ◌<◌, ◌≤◌, ◌↔◌, ◌-◌, IsTrue, length, IfSome, OnOk, OnErr, is_ok};
+    ghost use Rattle.vt_types.specs.Limits.{MOST_SECTORS};
     ghost use Rattle.vt_outside.specs.Disk.{Called, Reads, Writes};
     ghost use Rattle.vt_outside.specs.DiskCall.{read_call, write_call, flush_call, peek_call};
     ghost use Rattle.vt_outside.specs.Tripped.{TripCalled, FailCause};
@@ -41,10 +42,10 @@ impl<D: Disk> Tripped<D> {
         self.trip = k;
     }
 
-    /// How many sectors the disk has: at most 65,536.
+    /// How many sectors the disk has: at most `MOST_SECTORS`.
     pub fn sectors(&self) -> u64
         ensures value { result ≡ self.now.disk.count }
-        ensures bound { result ≤ 65536 }
+        ensures bound { result ≤ MOST_SECTORS }
         ensures whole { IfSome self.now.disk.image (λ image. length image ≡ result) }
     {
         self.disk.sectors()
@@ -52,7 +53,7 @@ impl<D: Disk> Tripped<D> {
 
     /// Whether the disk is there to be read only.
     pub fn read_only(&self) -> bool
-        ensures { result ≡ self.now.disk.locked }
+        ensures { result ≡ self.now.disk.read_only }
     {
         self.disk.read_only()
     }

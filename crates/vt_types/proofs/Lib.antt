@@ -1,2 +1,3 @@
+pub mod BoundLaws
 pub mod EventLists
 pub mod Programs

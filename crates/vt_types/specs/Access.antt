@@ -1,6 +1,7 @@
 use Rattle.std.specs.Prelude.{ℕ, ◌+◌, ◌-◌, ◌/◌, ◌≤◌, ◌==◌, ◌||◌, List, length, Bool, IsTrue, if◌then◌else◌}
 use Rattle.vt_types.specs.declared.access.Access.{Access}
 use Rattle.vt_types.specs.declared.access.Access.TheVariants as access
+use Rattle.vt_types.specs.Limits.{GUEST_PAGE, LONGEST_BUFFER}
 
 -- an access as contracts see it: the bytes of a put are a list
 pub data AccessValue : Type 0 where
@@ -41,9 +42,9 @@ access_value (access.Diag func id value cookie) = Diag func id value cookie
 abbrev pub is_width : ℕ → Bool
 is_width w = w == 1 || w == 2 || w == 4
 
--- the pages of 4,096 bytes that a range touches
+-- the pages of guest memory that a range touches
 abbrev pub pages_touched : ℕ → ℕ → ℕ
-pages_touched addr count = if count == 0 then 0 else (addr + count - 1) / 4096 - addr / 4096 + 1
+pages_touched addr count = if count == 0 then 0 else (addr + count - 1) / GUEST_PAGE - addr / GUEST_PAGE + 1
 
 -- what an access may cost a port: pages of guest memory to make, or bytes to keep
 abbrev pub access_cost : AccessValue → ℕ
@@ -63,16 +64,12 @@ access_cost (Csch id) = 0
 access_cost (TurnOf id) = 2
 access_cost (Diag func id value cookie) = 0
 
--- the most bytes of one put or get (our own)
-abbrev pub LONGEST_ACCESS : ℕ
-LONGEST_ACCESS = 8192
-
 -- what a line of a raw script can ask for
 abbrev pub IsWithinLimits : AccessValue → Type 0
 IsWithinLimits (Load addr width) = IsTrue (is_width width)
 IsWithinLimits (Store addr width value) = IsTrue (is_width width)
-IsWithinLimits (Put addr bytes) = (1 ≤ length bytes) × (length bytes ≤ LONGEST_ACCESS)
-IsWithinLimits (Get addr count) = (1 ≤ count) × (count ≤ LONGEST_ACCESS)
+IsWithinLimits (Put addr bytes) = (1 ≤ length bytes) × (length bytes ≤ LONGEST_BUFFER)
+IsWithinLimits (Get addr count) = (1 ≤ count) × (count ≤ LONGEST_BUFFER)
 IsWithinLimits (Zero addr count) = 1 ≤ count
 IsWithinLimits (Swap addr value) = Unit {0}
 IsWithinLimits (CfgLoad func off width) = (off ≤ 0xfff) × IsTrue (is_width width)

@@ -21,6 +21,17 @@ config_length Blk = 60
 config_length Net = 8
 config_length Con = 12
 
+-- the columns and the rows of a console at the start (our own)
+abbrev pub START_COLS : ℕ
+START_COLS = 80
+
+abbrev pub START_ROWS : ℕ
+START_ROWS = 25
+
+-- the ports of a console (VIRTIO 1.2, 5.3.4; without MULTIPORT there is one)
+abbrev pub CONSOLE_PORTS : ℕ
+CONSOLE_PORTS = 1
+
 -- the greatest size of a queue, in descriptors (our own: VIRTIO 1.2, 2.7, lets a queue have up to 32768)
 abbrev pub GREATEST_QUEUE : ℕ
 GREATEST_QUEUE = 256
@@ -28,6 +39,10 @@ GREATEST_QUEUE = 256
 -- the bytes of a queue's block in guest memory (our own)
 abbrev pub BLOCK_LEN : ℕ
 BLOCK_LEN = 0x1000000
+
+-- how many blocks there are: one for each queue of the three devices (our own)
+abbrev pub MOST_BLOCKS : ℕ
+MOST_BLOCKS = 5
 
 -- the number of the block of a device's first queue: the blocks are those of the block device's queue, of the network
 -- device's two and of the console's two (our own)

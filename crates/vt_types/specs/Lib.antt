@@ -2,8 +2,10 @@ pub mod Access
 pub mod Device
 pub mod Events
 pub mod Features
+pub mod Limits
 pub mod Operation
 pub mod Program
 pub mod Reply
 pub mod Status
 pub mod Tables
+pub mod Within

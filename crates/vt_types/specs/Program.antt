@@ -1,4 +1,4 @@
-use Rattle.std.specs.Prelude.{◌≡◌, ℕ, ◌+◌, List, [], ◌∷◌, Bool, true, false}
+use Rattle.std.specs.Prelude.{◌≡◌, ℕ, ◌+◌, ◌-◌, ◌≤◌, List, [], ◌∷◌, Bool, true, false}
 use Rattle.vt_types.specs.declared.access.Answer.{Answer}
 use Rattle.vt_types.specs.declared.access.Answer.TheVariants as answer
 use Rattle.vt_types.specs.Access.{AccessValue, access_cost}
@@ -63,3 +63,15 @@ abbrev pub run : {R X : Type 0} → (AccessValue → R → Answer × List ℕ ×
 run table mark (Do a rest) r = run table mark (rest (table a r).0 (table a r).1) (table a r).2
 run table mark (Mark rest) r = run table mark rest (mark r)
 run table mark (End x) r = (x, r)
+
+-- whatever the answers are, what the accesses of a program count comes to at most so much
+abbrev pub CountsAtMost : {X : Type 0} → (AccessValue → ℕ) → Program X → ℕ → Type 0
+CountsAtMost counts (Do a rest) most =
+    (counts a ≤ most) × ((answer : Answer) (bytes : List ℕ) → CountsAtMost counts (rest answer bytes) (most - counts a))
+CountsAtMost counts (Mark rest) most = CountsAtMost counts rest most
+CountsAtMost counts (End x) most = Unit {0}
+
+-- what accesses count together
+abbrev pub counts_of_all : (AccessValue → ℕ) → List AccessValue → ℕ
+counts_of_all counts [] = 0
+counts_of_all counts (a ∷ rest) = counts a + counts_of_all counts rest

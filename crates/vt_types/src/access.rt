@@ -1,12 +1,10 @@
 //! Accesses of a driver, and their answers.
 
+use crate::limits::LONGEST_BUFFER;
 use arrayvec::ArrayVec;
 
-/// The most bytes of one put or get (our own).
-pub const LONGEST_ACCESS: usize = 8192;
-
 /// Room for the bytes of a get.
-pub type Room = ArrayVec<u8, LONGEST_ACCESS>;
+pub type Room = ArrayVec<u8, LONGEST_BUFFER>;
 
 /// One access: a load or a store of a register, bytes put into or got from guest memory, zeroed or swapped, or a
 /// channel instruction. Widths are 1, 2 or 4 bytes.

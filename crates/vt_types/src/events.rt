@@ -1,12 +1,10 @@
 //! A list of events.
 
 use crate::bytes::Memory;
+use crate::limits::MOST_EVENTS;
 use crate::operation::{Event, EventAt};
 use std::alloc::{AllocError, Global};
 use std::marker::Model;
-
-/// The most events of one operation (our own).
-pub const MOST_EVENTS: u32 = 128;
 
 /// Events in the order of their gaps: at most `MOST_EVENTS`, and no gap is below the one before it.
 #[derive(Drop)]

@@ -5,6 +5,7 @@ ghost use Rattle.vt_types.specs.Status.{status_of_step};
 
 use crate::bytes::Bytes;
 use crate::device::Dev;
+use crate::limits::MOST_PIECES;
 use crate::status::Status;
 use arrayvec::ArrayVec;
 
@@ -82,7 +83,7 @@ pub struct PostBuf {
     pub tag: u16,
     pub indirect: bool,
     pub readable: Bytes,
-    pub cuts: ArrayVec<u16, 8>,
+    pub cuts: ArrayVec<u16, MOST_PIECES>,
     pub nread: u8,
 }
 

@@ -2,12 +2,12 @@
 
 ghost use Rattle.std.specs.Prelude.{◌≡◌, ◌+◌, ◌%◌, ◌≤◌, ◌<◌, ◌^◌, ◌↔◌, ◌++◌, length, IsOk, OnOk, OnErr};
 ghost use Rattle.guest_mem.specs.Memory.{part};
+ghost use Rattle.vt_types.specs.Limits.{GUEST_PAGE, LONGEST_BUFFER};
 
 use super::GuestMem;
 use crate::Outside;
-use crate::arena::PAGE_SIZE;
 use crate::paging::{first_piece, is_in_one_page};
-use vt_types::Room;
+use vt_types::{GUEST_PAGE, Room};
 
 impl GuestMem {
     /// Fills `room` with the bytes from `addr` on.
@@ -25,7 +25,7 @@ impl GuestMem {
     /// Adds the `count` bytes from `addr` on to what is in a room, which has space for them.
     #[inline]
     pub fn read_onto(&self, addr: u64, count: usize, room: &mut Room) -> Result<(), Outside>
-        requires { length room.old.items + count ≤ 8192 }
+        requires { length room.old.items + count ≤ LONGEST_BUFFER }
         ensures cause { IsOk result ↔ (addr + count ≤ length self.now.bytes) }
         ensures ok { OnOk result (room.new.items ≡ room.old.items ++ part self.now.bytes addr count) }
         ensures err { OnErr result (room.new.items ≡ room.old.items) }
@@ -35,10 +35,10 @@ impl GuestMem {
         Ok(())
     }
 
-    /// Fills a room with the `count` bytes from `addr` on, of which there are at most 8,192.
+    /// Fills a room with the `count` bytes from `addr` on, of which there are at most `LONGEST_BUFFER`.
     #[inline]
     pub fn read_into(&self, addr: u64, count: usize, room: &mut Room) -> Result<(), Outside>
-        requires { count ≤ 8192 }
+        requires { count ≤ LONGEST_BUFFER }
         ensures cause { IsOk result ↔ (addr + count ≤ length self.now.bytes) }
         ensures ok { OnOk result (room.new.items ≡ part self.now.bytes addr count) }
         ensures err { OnErr result (room.new.items ≡ room.old.items) }
@@ -54,12 +54,12 @@ impl GuestMem {
     fn bytes_in_page(&self, at: usize, count: usize) -> &[u8]
         requires some { 0 < count }
         requires inside { at + count ≤ length self.now.bytes }
-        requires within { at % 4096 + count ≤ 4096 }
+        requires within { at % GUEST_PAGE + count ≤ GUEST_PAGE }
         ensures { result.now ≡ part self.now.bytes at count }
     {
-        let number = self.page_numbers[at / PAGE_SIZE];
+        let number = self.page_numbers[at / GUEST_PAGE];
         let page = self.arena.page(number);
-        let from = at % PAGE_SIZE;
+        let from = at % GUEST_PAGE;
         &page[from..from + count]
     }
 
@@ -98,7 +98,7 @@ impl GuestMem {
     fn append(&self, at: usize, count: usize, room: &mut Room)
         requires fits { at + count < 2 ^ 64 }
         requires inside { at + count ≤ length self.now.bytes }
-        requires space { length room.old.items + count ≤ 8192 }
+        requires space { length room.old.items + count ≤ LONGEST_BUFFER }
         ensures { room.new.items ≡ room.old.items ++ part self.now.bytes at count }
     {
         if is_in_one_page(at, count) {
@@ -113,7 +113,7 @@ impl GuestMem {
     fn append_by_pages(&self, at: usize, count: usize, room: &mut Room)
         requires fits { at + count < 2 ^ 64 }
         requires inside { at + count ≤ length self.now.bytes }
-        requires space { length room.old.items + count ≤ 8192 }
+        requires space { length room.old.items + count ≤ LONGEST_BUFFER }
         ensures { room.new.items ≡ room.old.items ++ part self.now.bytes at count }
     {
         let mut done = 0;
@@ -129,8 +129,8 @@ impl GuestMem {
     fn append_in_page(&self, at: usize, count: usize, room: &mut Room)
         requires some { 0 < count }
         requires inside { at + count ≤ length self.now.bytes }
-        requires within { at % 4096 + count ≤ 4096 }
-        requires space { length room.old.items + count ≤ 8192 }
+        requires within { at % GUEST_PAGE + count ≤ GUEST_PAGE }
+        requires space { length room.old.items + count ≤ LONGEST_BUFFER }
         ensures { room.new.items ≡ room.old.items ++ part self.now.bytes at count }
     {
         let _fits = room.try_extend_from_slice(self.bytes_in_page(at, count));

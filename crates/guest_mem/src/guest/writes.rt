@@ -4,12 +4,13 @@ ghost use Rattle.std.specs.Prelude.{◌≡◌, ◌+◌, ◌/◌, ◌%◌, ◌≤
 ghost use Rattle.guest_mem.specs.Memory.{put_at, be64_at, be64_of};
 ghost use Rattle.guest_mem.specs.Pages.{absent, missing, needed, pages_made, with_pages, written, AreThere};
 ghost use Rattle.vt_types.specs.Access.{pages_touched};
+ghost use Rattle.vt_types.specs.Limits.{GUEST_PAGE};
 
 use super::GuestMem;
 use crate::Outside;
-use crate::arena::PAGE_SIZE;
 use crate::paging::{first_piece, is_in_one_page, touched};
 use byteorder::{BigEndian, ByteOrder};
+use vt_types::GUEST_PAGE;
 
 impl GuestMem {
     /// Puts `bytes` from `addr` on. The pages of the range that were not made are made, of the spare ones.
@@ -67,7 +68,7 @@ impl GuestMem {
     #[inline(always)]
     fn make(&mut self, at: usize, count: usize)
         requires fits { at + count < 2 ^ 64 }
-        requires inside { at / 4096 + pages_touched at count ≤ length self.old.made }
+        requires inside { at / GUEST_PAGE + pages_touched at count ≤ length self.old.made }
         requires spare { missing self.old.made at count ≤ self.old.spare }
         ensures bytes { self.new.bytes ≡ self.old.bytes }
         ensures made { self.new.made ≡ with_pages self.old.made at count }
@@ -75,9 +76,9 @@ impl GuestMem {
         ensures total { pages_made self.new.made + self.new.spare ≡ pages_made self.old.made + self.old.spare }
     {
         if is_in_one_page(at, count) {
-            self.make_page(at / PAGE_SIZE);
+            self.make_page(at / GUEST_PAGE);
         } else {
-            self.make_pages(at / PAGE_SIZE, touched(at, count));
+            self.make_pages(at / GUEST_PAGE, touched(at, count));
         }
     }
 
@@ -145,12 +146,12 @@ impl GuestMem {
     #[inline(always)]
     fn put_in_page(&mut self, at: usize, bytes: &[u8])
         requires inside { at + length bytes.now ≤ length self.old.bytes }
-        requires within { at % 4096 + length bytes.now ≤ 4096 }
-        requires made { slice_index_or self.old.made (at / 4096) false ≡ true }
+        requires within { at % GUEST_PAGE + length bytes.now ≤ GUEST_PAGE }
+        requires made { slice_index_or self.old.made (at / GUEST_PAGE) false ≡ true }
         ensures { self.new ≡ record self.old { bytes = put_at self.old.bytes at bytes.now } }
     {
-        let number = self.page_numbers[at / PAGE_SIZE];
-        self.arena.put(number, at % PAGE_SIZE, bytes);
+        let number = self.page_numbers[at / GUEST_PAGE];
+        self.arena.put(number, at % GUEST_PAGE, bytes);
     }
 
     /// Puts zeros into pages that were made, page by page.
@@ -171,11 +172,11 @@ impl GuestMem {
     /// Puts zeros into a page that was made.
     fn clear_in_page(&mut self, at: usize, count: usize)
         requires inside { at + count ≤ length self.old.bytes }
-        requires within { at % 4096 + count ≤ 4096 }
-        requires made { slice_index_or self.old.made (at / 4096) false ≡ true }
+        requires within { at % GUEST_PAGE + count ≤ GUEST_PAGE }
+        requires made { slice_index_or self.old.made (at / GUEST_PAGE) false ≡ true }
         ensures { self.new ≡ record self.old { bytes = put_at self.old.bytes at (replicate count 0) } }
     {
-        let number = self.page_numbers[at / PAGE_SIZE];
-        self.arena.clear(number, at % PAGE_SIZE, count);
+        let number = self.page_numbers[at / GUEST_PAGE];
+        self.arena.clear(number, at % GUEST_PAGE, count);
     }
 }

@@ -13,7 +13,7 @@ pub packed-preserved : goal.packed-preserved
 packed-preserved c = record {
   room = search rules;
   rest = c.packed.invariant.rest
-      ∙ packed_step c.packed.pieces.items c.args.count c.packed.place c.args.addr c.args.mem.now.bytes c.packed-test.true
-      ∙ ap (λ w. w ++ packed_table (c.args.count - (c.packed.place + 1)) c.args.mem.now.bytes (c.args.addr + 16 * (c.packed.place + 1)))
+      ∙ packed_step c.packed.pieces.items c.args.count c.packed.location c.args.addr c.args.mem.now.bytes c.packed-test.true
+      ∙ ap (λ w. w ++ packed_table (c.args.count - (c.packed.location + 1)) c.args.mem.now.bytes (c.args.addr + 16 * (c.packed.location + 1)))
       (ap (λ d. c.packed.pieces.items ++ packed_piece_of d ∷ []) (sym c.in-Some.ensures.value) ∙ ap (λ p. c.packed.pieces.items ++ p ∷ []) (sym c.piece.ensures) ∙ sym c.push.ensures.items);
 }

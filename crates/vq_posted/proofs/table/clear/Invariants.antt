@@ -1,5 +1,5 @@
 use Rattle.std.proofs.Common.{◌≡◌, ◌++◌, None, replicate, drop}
 use Rattle.vq_posted.proofs.table.clear.Given as goal
 
-abbrev pub invariant-places : goal.invariant-places
-invariant-places l = l.places ≡ replicate l.place-index None ++ drop l.place-index l.fn.places
+abbrev pub invariant-locations : goal.invariant-locations
+invariant-locations l = l.locations ≡ replicate l.location-index None ++ drop l.location-index l.fn.locations

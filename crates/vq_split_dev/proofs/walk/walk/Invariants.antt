@@ -6,4 +6,4 @@ use Rattle.vq_split_dev.proofs.walk.walk.Given as goal
 
 abbrev pub invariant-descriptors : goal.invariant-descriptors
 invariant-descriptors l =
-    chain_shown l.mem.bytes l.cfg l.head ≡ joined l.mem.bytes l.cfg l.head l.index l.pieces.items (chain_from (l.cfg.size - l.index) l.mem.bytes l.cfg.desc l.cfg.size l.place)
+    chain_shown l.mem.bytes l.cfg l.head ≡ joined l.mem.bytes l.cfg l.head l.index l.pieces.items (chain_from (l.cfg.size - l.index) l.mem.bytes l.cfg.desc l.cfg.size l.location)

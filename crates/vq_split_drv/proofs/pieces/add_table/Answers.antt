@@ -4,7 +4,7 @@ use Rattle.std.proofs.lemmas.Grind.{common_steps}
 use Rattle.vq_common.specs.Descriptor.{descriptor_bytes}
 use Rattle.vq_common.proofs.Results.{on_ok_at}
 use Rattle.vq_posted.specs.Free.{numbers}
-use Rattle.vq_split_drv.specs.Post.{descriptor_of, descriptors_of, place_after, table_bytes}
+use Rattle.vq_split_drv.specs.Post.{descriptor_of, descriptors_of, location_after, table_bytes}
 use Rattle.vq_split_drv.proofs.Described.{table_next}
 use Rattle.vq_split_drv.proofs.pieces.add_table.Goals as goal
 
@@ -20,8 +20,8 @@ pieces-preserved c =
     let sixteen : length c.to_bytes.result ≡ 16 = ap length c.to_bytes.ensures in
     let ok : IsOk c.try_extend_from_slice-fits.result = c.try_extend_from_slice-fits.ensures.variant.1 (omega arith) in
     let items : c.try_extend_from_slice-fits.new.self.items ≡ old ++ c.to_bytes.result = on_ok_at c.try_extend_from_slice-fits.result ok c.try_extend_from_slice-fits.ensures.ok in
-    let bytes : c.to_bytes.result ≡ descriptor_bytes (descriptor_of addr readable (get_or lengths i 0) (place_after i (length lengths)))
-    = c.to_bytes.ensures ∙ ap descriptor_bytes (c.describe-descriptor.ensures.descriptor ∙ ap (descriptor_of addr readable (get_or lengths i 0)) c.next_place.ensures)
+    let bytes : c.to_bytes.result ≡ descriptor_bytes (descriptor_of addr readable (get_or lengths i 0) (location_after i (length lengths)))
+    = c.to_bytes.ensures ∙ ap descriptor_bytes (c.describe-descriptor.ensures.descriptor ∙ ap (descriptor_of addr readable (get_or lengths i 0)) c.next_location.ensures)
     in
     record {
       long = ap length items ∙ length-append old c.to_bytes.result ∙ omega arith;

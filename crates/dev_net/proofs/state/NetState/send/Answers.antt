@@ -16,12 +16,12 @@ invariant_of-self c =
     let pieces = c.args.chain.now.pieces.items in
     let whole = length-readable mem pieces (rules_inside (length mem) pieces c.requires.rules) in
     let frame = length-part (readable mem pieces) 12 c.args.len (omega (arith, whole, c.requires.whole)) in
-    let (few, room, bytes_room, sent_room, count, inside) = c.self.invariant in (
+    let (few, waiting_fit, bytes_fit, sent_fit, count, inside) = c.self.invariant in (
       few,
-      room,
-      omega (arith, bytes_room, c.add_frame.ensures.length, c.add_frame.ensures.capacity, c.requires.few, c.requires.room, ap (λ (v : NetworkState). v.spare) c.self.view_is),
-      omega (arith, sent_room, c.push_reserved.ensures.len, c.push_reserved.ensures.capacity, c.requires.room, ap (λ (v : NetworkState). v.spare) c.self.view_is),
-      omega (arith, count, c.push_reserved.ensures.len, c.requires.room, ap (λ (v : NetworkState). v.spare) c.self.view_is),
+      waiting_fit,
+      omega (arith, bytes_fit, c.add_frame.ensures.length, c.add_frame.ensures.capacity, c.requires.few, c.requires.spare, ap (λ (v : NetworkState). v.spare) c.self.view_is),
+      omega (arith, sent_fit, c.push_reserved.ensures.len, c.push_reserved.ensures.capacity, c.requires.spare, ap (λ (v : NetworkState). v.spare) c.self.view_is),
+      omega (arith, count, c.push_reserved.ensures.len, c.requires.spare, ap (λ (v : NetworkState). v.spare) c.self.view_is),
       rw (c.push_reserved.ensures.items, c.add_frame.ensures.bytes)
           (are_inside-more (length s.bytes.items) _ s.sent.items c.len-start.result c.args.len
           (omega (arith, length-append s.bytes.items (part (readable mem pieces) 12 c.args.len)))
@@ -37,7 +37,7 @@ returns c =
     let frame = part (readable mem pieces) 12 c.args.len in
     let whole = length-readable mem pieces (rules_inside (length mem) pieces c.requires.rules) in
     let long : length frame ≡ c.args.len = length-part (readable mem pieces) 12 c.args.len (omega (arith, whole, c.requires.whole)) in
-    let (few, room, bytes_room, sent_room, count, inside) = c.self.invariant in
+    let (few, waiting_fit, bytes_fit, sent_fit, count, inside) = c.self.invariant in
     let start : c.len-start.result ≡ length s.bytes.items = omega (arith, c.len-start.ensures, s.bytes.ok.0) in
     let sent : sent_frames c.add_frame.new.bytes.items c.push_reserved.new.self.items ≡ sent_frames s.bytes.items s.sent.items ++ frame ∷ [] =
     rw (c.push_reserved.ensures.items, c.add_frame.ensures.bytes)

@@ -1,4 +1,4 @@
--- A chain that the ring shows keeps the rules, takes no more places than the ring has, and is shown where the ring's areas
+-- A chain that the ring shows keeps the rules, takes no more locations than the ring has, and is shown where the ring's areas
 -- lie inside memory, whose length stays while bytes are written over the chain.
 use Rattle.std.proofs.Common.{◌≡◌, List, ℕ, length, sym, ap, arith, ◌∙◌}
 use Rattle.vq_common.specs.Chain.{chain_value}

@@ -1,9 +1,9 @@
 use Rattle.std.proofs.Common.{◌≡◌, ℕ, ◌≤◌, ap, arith, sym, ◌∙◌}
 use Rattle.vq_common.specs.declared.position.Position.{Position}
 use Rattle.vq_common.specs.Chain.{ChainValue, Front, chain_value, walked}
-use Rattle.vq_common.specs.Position.{place_after}
+use Rattle.vq_common.specs.Position.{location_after}
 use Rattle.vq_common.specs.Queue.{DeviceQueue}
-use Rattle.vq_common.proofs.PositionLaws.{place_after-inside}
+use Rattle.vq_common.proofs.PositionLaws.{location_after-inside}
 use Rattle.vq_packed_dev.specs.Shown.{shown}
 use Rattle.vq_packed_dev.specs.Walk.{packed_walk}
 use Rattle.vq_packed_dev.proofs.device.PackedDeviceDeviceEnd.take.Goals as goal
@@ -16,6 +16,6 @@ invariant_of-self c =
     let shows : packed_walk c.args.mem.now.bytes q ≡ Front chain = sym c.front-front.ensures ∙ ap walked c.in-Front.is in
     let same : q.cfg.size ≡ size = ap (λ (q : DeviceQueue). q.cfg.size) (sym c.self.view_is) in
     let few : chain.slots ≤ q.cfg.size = (shown c.args.mem.now.bytes q chain shows).slots in
-    let place : c.advance-self-inside.result.place ≡ place_after size c.self.inside.taken.place chain.slots = ap (λ (p : Position). p.place) c.advance-self-inside.ensures in
+    let location : c.advance-self-inside.result.location ≡ location_after size c.self.inside.taken.location chain.slots = ap (λ (p : Position). p.location) c.advance-self-inside.ensures in
     let (ring, taken, used) = c.self.invariant in
-    (ring, rw place (place_after-inside size c.self.inside.taken.place chain.slots taken (omega arith)), used)
+    (ring, rw location (location_after-inside size c.self.inside.taken.location chain.slots taken (omega arith)), used)

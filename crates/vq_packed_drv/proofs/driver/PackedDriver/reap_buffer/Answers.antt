@@ -2,10 +2,10 @@ use Rattle.std.proofs.Common.{◌≡◌, ℕ, ◌+◌, ◌<◌, ◌≤◌, List,
 use Rattle.vt_types.specs.Program.{Gives}
 use Rattle.port_access.specs.Accesses.{bytes_program}
 use Rattle.vq_common.specs.declared.position.Position.{Position}
-use Rattle.vq_common.specs.Map.{data_place}
+use Rattle.vt_layout.specs.QueueBlock.{data_address}
 use Rattle.vq_common.specs.Position.{position_after}
 use Rattle.vq_common.specs.Queue.{DriverQueue, Unreaped, unreaped_with, without}
-use Rattle.vq_common.proofs.PositionLaws.{place_after-inside}
+use Rattle.vq_common.proofs.PositionLaws.{location_after-inside}
 use Rattle.vq_posted.specs.Reap.{ask_program}
 use Rattle.vq_posted.specs.Table.{PostedView, found_of}
 use Rattle.vq_posted.proofs.Each.{each-without, found_at}
@@ -15,11 +15,11 @@ use Rattle.vq_packed_drv.specs.Reap.{event_put, packed_reaped, reap_buffer}
 use Rattle.vq_packed_drv.proofs.driver.PackedDriver.reap_buffer.Goals as goal
 
 -- the next used position is in the ring
-next_inside : (size slots : ℕ) (used next : Position) → used.place < size → slots ≤ size → next ≡ position_after size used slots → next.place < size
-next_inside size slots used next inside few e = subst (λ (p : Position). p.place < size) (sym e) (place_after-inside size used.place slots inside few)
+next_inside : (size slots : ℕ) (used next : Position) → used.location < size → slots ≤ size → next ≡ position_after size used slots → next.location < size
+next_inside size slots used next inside few e = subst (λ (p : Position). p.location < size) (sym e) (location_after-inside size used.location slots inside few)
 
-pub ask_next-requires-clause-place : goal.ask_next-requires-clause-place
-ask_next-requires-clause-place g c =
+pub ask_next-requires-clause-location : goal.ask_next-requires-clause-location
+ask_next-requires-clause-location g c =
     let i = c.self.inside in
     let size : ℕ = i.ring.cfg.size in
     let started : 0 < size = subst (λ (s : PackedState). 0 < s.queue.cfg.size) (sym c.self.view_is) c.requires.started in
@@ -53,16 +53,16 @@ returns-in-Some-clause-gives g c =
     let bytes : List ℕ = c.get_data.new.room.items in
     let next : Position = c.advance-self-inside.result in
     let (u, k, h) = found_at (IsPackedBuffer i.ring.cfg.size) d.id us c.in-Some.found c.self.invariant.each (c.in-Some.ensures ∙ ap (λ (n : ℕ). found_of (unreaped_with n i.posted.unreaped)) c.from.ensures) in
-    let place : data_place i.ring.base d.id + c.in-Some.found.readable ≡ data_place q.base u.id + u.readable
-    = ap (λ (n : ℕ). data_place i.ring.base n + c.in-Some.found.readable) (sym k.is) ∙ ap (λ (n : ℕ). data_place i.ring.base u.id + n) (sym k.readable)
+    let location : data_address i.ring.base d.id + c.in-Some.found.readable ≡ data_address q.base u.id + u.readable
+    = ap (λ (n : ℕ). data_address i.ring.base n + c.in-Some.found.readable) (sym k.is) ∙ ap (λ (n : ℕ). data_address i.ring.base u.id + n) (sym k.readable)
     in
-    let got_them = subst (λ (a : ℕ). Gives step marking (bytes_program a d.len) p bytes p1) place c.get_data.ensures.gives in
+    let got_them = subst (λ (a : ℕ). Gives step marking (bytes_program a d.len) p bytes p1) location c.get_data.ensures.gives in
     let moved : next ≡ position_after i.ring.cfg.size i.ring.used u.slots = c.advance-self-inside.ensures ∙ ap (position_after i.ring.cfg.size i.ring.used) (sym k.slots) in
     let left : c.remove.new.self.unreaped ≡ without u.id us = ap (λ (v : PostedView). v.unreaped) c.remove.ensures ∙ ap (λ (n : ℕ). without n us) (sym k.is) in
-    let asked = subst (λ (r : Position). Gives step marking (ask_program event_put (record q { used = r.place; used_wrap = r.wrap })) p1 tt p2) moved c.ask_next.ensures.gives in
+    let asked = subst (λ (r : Position). Gives step marking (ask_program event_put (record q { used = r.location; used_wrap = r.wrap })) p1 tt p2) moved c.ask_next.ensures.gives in
     subst (λ (s : PackedState). Gives step marking (reap_buffer s.queue d) p
-    (Some (record { tag = c.in-Some.found.tag; len = d.len; bytes = bytes }), record q { used = next.place; used_wrap = next.wrap; unreaped = c.remove.new.self.unreaped }) p2) c.self.view_is
-    (subst (λ (t : ℕ). Gives step marking (reap_buffer q d) p (Some (record { tag = t; len = d.len; bytes = bytes }), record q { used = next.place; used_wrap = next.wrap; unreaped = c.remove.new.self.unreaped }) p2) k.tag
-    (subst (λ (vs : List Unreaped). Gives step marking (reap_buffer q d) p (Some (record { tag = u.tag; len = d.len; bytes = bytes }), record q { used = next.place; used_wrap = next.wrap; unreaped = vs }) p2) (sym left)
-    (subst (λ (r : Position). Gives step marking (reap_buffer q d) p (Some (record { tag = u.tag; len = d.len; bytes = bytes }), record q { used = r.place; used_wrap = r.wrap; unreaped = without u.id us }) p2) (sym moved)
-    (reap_found_gives step marking packed_reaped event_put q u (unreaped_with d.id us) d.len bytes p p1 p2 k.named c.if-descriptor-le8192.true got_them asked))))
+    (Some (record { tag = c.in-Some.found.tag; len = d.len; bytes = bytes }), record q { used = next.location; used_wrap = next.wrap; unreaped = c.remove.new.self.unreaped }) p2) c.self.view_is
+    (subst (λ (t : ℕ). Gives step marking (reap_buffer q d) p (Some (record { tag = t; len = d.len; bytes = bytes }), record q { used = next.location; used_wrap = next.wrap; unreaped = c.remove.new.self.unreaped }) p2) k.tag
+    (subst (λ (vs : List Unreaped). Gives step marking (reap_buffer q d) p (Some (record { tag = u.tag; len = d.len; bytes = bytes }), record q { used = next.location; used_wrap = next.wrap; unreaped = vs }) p2) (sym left)
+    (subst (λ (r : Position). Gives step marking (reap_buffer q d) p (Some (record { tag = u.tag; len = d.len; bytes = bytes }), record q { used = r.location; used_wrap = r.wrap; unreaped = without u.id us }) p2) (sym moved)
+    (reap_found_gives step marking packed_reaped event_put q u (unreaped_with d.id us) d.len bytes p p1 p2 k.named c.if-descriptor.true got_them asked))))

@@ -3,7 +3,7 @@ use Rattle.vt_types.specs.Operation.{PostedBuffer, posted_buffer}
 use Rattle.vt_types.specs.Program.{Does, Gives, cost_of_all}
 use Rattle.vq_common.specs.declared.position.Position.{Position}
 use Rattle.vq_common.specs.Queue.{DriverQueue, Unreaped, cost_of_post, free_slots, post_program, slots_of}
-use Rattle.vq_common.proofs.PositionLaws.{place_after-inside}
+use Rattle.vq_common.proofs.PositionLaws.{location_after-inside}
 use Rattle.vq_common.proofs.PostLaws.{cost_with_room, post_gives, slots_of-some}
 use Rattle.vq_posted.specs.Free.{head_of}
 use Rattle.vq_posted.specs.Table.{PostedView}
@@ -52,7 +52,7 @@ invariant_of-self g c =
     in
     subst (λ (v : PostedView). IsKept size c.advance-self-inside.result i.ring.used v) (sym c.add.ensures)
     (record {
-      available = λ started. subst (λ (p : Position). p.place < size) (sym c.advance-self-inside.ensures) (place_after-inside size i.ring.available.place c.slots_of-slots.result (c.self.invariant.available started) fits);
+      available = λ started. subst (λ (p : Position). p.location < size) (sym c.advance-self-inside.ensures) (location_after-inside size i.ring.available.location c.slots_of-slots.result (c.self.invariant.available started) fits);
       used = c.self.invariant.used;
       ring = c.self.invariant.ring;
       each = each-with_buffer (IsPackedBuffer size) u i.posted.unreaped buffer c.self.invariant.each;
@@ -77,9 +77,9 @@ returns-clause-gives g c =
     = subst (λ (n : ℕ). Does step marking (post_puts q b n) p c.put_buffer.new.port) id c.put_buffer.ensures.does
     in
     let left : c.add.new.self.unreaped ≡ _ = ap (λ (v : PostedView). v.unreaped) c.add.ensures in
-    let after = ap (λ (us : List Unreaped). record q { available = next.place; available_wrap = next.wrap; unreaped = us }) left
+    let after = ap (λ (us : List Unreaped). record q { available = next.location; available_wrap = next.wrap; unreaped = us }) left
     ∙ posted_is q b next items c.slots_of-slots.result c.len.result c.lowest_free-descriptors.ensures.count head slots c.len.ensures c.advance-self-inside.ensures
     in
-    subst (λ (r : DriverQueue). Gives step marking (post_program packed_post_accesses packed_posted r b) p (true, record q { available = next.place; available_wrap = next.wrap; unreaped = c.add.new.self.unreaped }) c.mark.new.self) view
+    subst (λ (r : DriverQueue). Gives step marking (post_program packed_post_accesses packed_posted r b) p (true, record q { available = next.location; available_wrap = next.wrap; unreaped = c.add.new.self.unreaped }) c.mark.new.self) view
     (subst (λ (r : DriverQueue). Gives step marking (post_program packed_post_accesses packed_posted q b) p (true, r) c.mark.new.self) (sym after)
     (post_gives step marking packed_post_accesses packed_posted q b p c.put_buffer.new.port c.mark.new.self room done c.mark.ensures.marking))

@@ -2,7 +2,8 @@ use Rattle.std.proofs.Common.{◌≡◌, ℕ, ◌*◌, ◌≤◌, List, Bool, le
 use Rattle.std.proofs.lemmas.Grind.{common_steps}
 use Rattle.std.proofs.lemmas.List.{length-replicate, take-replicate}
 use Rattle.std.proofs.lemmas.List.Elements.{All-replicate}
-use Rattle.vq_common.specs.Buffer.{IsPieceLength, IsPostable}
+use Rattle.vt_types.specs.Within.{IsPieceWithin}
+use Rattle.vq_common.specs.Buffer.{IsPostable}
 use Rattle.vq_packed_drv.proofs.driver.tests.buffer.Goals as goal
 
 sum_of_twos : (n : ℕ) → sum (replicate n 2) ≡ 2 * n
@@ -16,7 +17,7 @@ pieces_of_two tag indirect bytes cuts pieces readable some few inside e long =
     (record {
       some = omega (arith, length-replicate {A = ℕ} pieces 2);
       few = omega (arith, length-replicate {A = ℕ} pieces 2);
-      each = All-replicate {X = ℕ} IsPieceLength pieces 2 (record { low = lit≤ tt; high = lit≤ tt });
+      each = All-replicate {X = ℕ} IsPieceWithin pieces 2 (record { low = lit≤ tt; high = lit≤ tt });
       total = omega (arith, sum_of_twos pieces);
       split = omega (arith, length-replicate {A = ℕ} pieces 2);
       readable = long ∙ sym (ap sum (take-replicate readable pieces 2 inside) ∙ sum_of_twos readable);

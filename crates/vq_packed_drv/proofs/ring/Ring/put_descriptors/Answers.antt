@@ -4,8 +4,8 @@ use Rattle.vt_types.specs.Access.{AccessValue}
 use Rattle.vt_types.specs.Program.{Does, cost_of_all}
 use Rattle.vq_common.specs.declared.position.Position.{Position}
 use Rattle.vq_common.specs.PackedDescriptor.{packed_descriptor_bytes}
-use Rattle.vq_common.specs.Position.{place_after, position_after}
-use Rattle.vq_common.proofs.PositionLaws.{place_after-inside}
+use Rattle.vq_common.specs.Position.{location_after, position_after}
+use Rattle.vq_common.proofs.PositionLaws.{location_after-inside}
 use Rattle.vq_packed_drv.proofs.Described.{ring_puts-cost, ring_puts-does, ring_puts-same}
 use Rattle.vq_packed_drv.proofs.ring.Ring.put_descriptors.Goals as goal
 
@@ -22,15 +22,15 @@ pieces-preserved g c =
     let next = c.next_descriptor-descriptor.new.self in
     let told = c.next_descriptor-descriptor.ensures in
     let rest = ring_puts-same base size (drop (i + 1) lengths) next.id id next.pieces.addr (addr + get_or lengths i 0) next.pieces.readable (readable - 1) next.position (position_after size position 1) told.id told.position told.addr told.readable in
-    let place : c.place-place.result ≡ base + 16 * position.place = c.place-place.ensures in
+    let location : c.location-location.result ≡ base + 16 * position.location = c.location-location.ensures in
     let bytes = c.to_bytes.ensures ∙ ap packed_descriptor_bytes told.descriptor in
     let long : length c.to_bytes.result ≡ 16 = ap length c.to_bytes.ensures in
     let left : sum (drop i lengths) ≡ get_or lengths i 0 + sum (drop (i + 1) lengths) = grind (arith, common_steps) in
-    let after : next.position.place ≡ place_after size position.place 1 = ap (λ (p : Position). p.place) told.position in
+    let after : next.position.location ≡ location_after size position.location 1 = ap (λ (p : Position). p.location) told.position in
     record {
-      place = omega (arith, after, place_after-inside size position.place 1 c.pieces.invariant.place (omega arith));
+      location = omega (arith, after, location_after-inside size position.location 1 c.pieces.invariant.location (omega arith));
       fits = omega (arith, c.pieces.invariant.fits, told.addr);
-      credit = omega (arith, c.pieces.invariant.credit, c.put.ensures.credit, ap cost_of_all rest, ring_puts-cost base size id position addr readable lengths i c.place-place.result c.to_bytes.result c.pieces-test.true place long);
-      whole = λ p2 more. c.pieces.invariant.whole p2 (ring_puts-does g.P.Port.step g.P.Port.marking base size id position addr readable lengths i c.place-place.result c.to_bytes.result _ _ p2 c.pieces-test.true place bytes c.put.ensures.does
+      credit = omega (arith, c.pieces.invariant.credit, c.put.ensures.credit, ap cost_of_all rest, ring_puts-cost base size id position addr readable lengths i c.location-location.result c.to_bytes.result c.pieces-test.true location long);
+      whole = λ p2 more. c.pieces.invariant.whole p2 (ring_puts-does g.P.Port.step g.P.Port.marking base size id position addr readable lengths i c.location-location.result c.to_bytes.result _ _ p2 c.pieces-test.true location bytes c.put.ensures.does
           (subst (λ (xs : List AccessValue). Does g.P.Port.step g.P.Port.marking xs c.put.new.port p2) rest more));
     }

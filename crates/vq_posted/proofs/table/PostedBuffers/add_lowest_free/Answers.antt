@@ -9,7 +9,7 @@ use Rattle.vq_posted.proofs.table.PostedBuffers.add_lowest_free.Goals as goal
 lowest : (c : goal.After-add_lowest) → c.add_lowest.new.numbers.items ≡ take c.args.count (free_descriptors c.args.self.now.size c.args.self.now.unreaped)
 lowest c =
     c.add_lowest.ensures
-    ∙ ap (take c.args.count) (members_are_free c.self.inside.size c.self.inside.free c.self.inside.descriptors c.self.inside.tags c.self.inside.places.items c.self.invariant)
+    ∙ ap (take c.args.count) (members_are_free c.self.inside.size c.self.inside.free c.self.inside.descriptors c.self.inside.tags c.self.inside.locations.items c.self.invariant)
     ∙ ap (λ (v : PostedView). take c.args.count (free_descriptors v.size v.unreaped)) c.self.view_is
 
 pub returns-clause-value : goal.returns-clause-value

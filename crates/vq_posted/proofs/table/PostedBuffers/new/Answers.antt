@@ -8,13 +8,13 @@ use Rattle.vq_posted.proofs.table.PostedBuffers.new.Goals as goal
 
 pub invariant_of-result : goal.invariant_of-result
 invariant_of-result c =
-    let none = c.places.invariant in
-    let long : length c.places.places.items ≡ c.places._place = ap length none ∙ length-replicate c.places._place None in
-    kept_empty 0 c.in_ok-new.field-0 c.in_ok-new-2.field-0 c.places.places.items (ap (entries 0) none ∙ entries_of_none 0 c.places._place) (omega arith) (omega (arith, c.ranges.max.fits)) (omega (arith, c.in_ok-new.ensures.room)) c.in_ok-new-2.ensures.room
+    let none = c.locations.invariant in
+    let long : length c.locations.locations.items ≡ c.locations._location = ap length none ∙ length-replicate c.locations._location None in
+    kept_empty 0 c.in_ok-new.field-0 c.in_ok-new-2.field-0 c.locations.locations.items (ap (entries 0) none ∙ entries_of_none 0 c.locations._location) (omega arith) (omega (arith, c.ranges.max.fits)) (omega (arith, c.in_ok-new.ensures.room)) c.in_ok-new-2.ensures.room
     (λ n. c.in_ok-new.ensures.empty n ∙ sym (le-ltb n 0 (omega arith))) c.in_ok-new-2.ensures.empty
 
 pub returns : goal.returns
 returns c =
-    let none = c.places.invariant in
-    let long : length c.places.places.items ≡ c.places._place = ap length none ∙ length-replicate c.places._place None in
-    same_view 0 (length c.places.places.items) c.args.max _ _ (omega arith) (ap (entries 0) none ∙ entries_of_none 0 c.places._place)
+    let none = c.locations.invariant in
+    let long : length c.locations.locations.items ≡ c.locations._location = ap length none ∙ length-replicate c.locations._location None in
+    same_view 0 (length c.locations.locations.items) c.args.max _ _ (omega arith) (ap (entries 0) none ∙ entries_of_none 0 c.locations._location)

@@ -8,21 +8,21 @@ use Rattle.vq_posted.proofs.table.PostedBuffers.start.Goals as goal
 
 pub invariant_of-self : goal.invariant_of-self
 invariant_of-self c =
-    let old : List (Option Posted) = c.self.inside.places.items in
+    let old : List (Option Posted) = c.self.inside.locations.items in
     let count : ℕ = length c.as_mut_slice.result.now in
     let same : count ≡ length old = ap length c.as_mut_slice.ensures.value in
-    let long : length c.clear-2.new.places ≡ length old = ap length c.clear-2.ensures ∙ length-replicate count None ∙ same in
-    let places = written_over c.clear-2.new.places old c.self.inside.places.len long (omega arith) ∙ c.clear-2.ensures in
-    let places_long = ap length places ∙ length-replicate count None in
+    let long : length c.clear-2.new.locations ≡ length old = ap length c.clear-2.ensures ∙ length-replicate count None ∙ same in
+    let locations = written_over c.clear-2.new.locations old c.self.inside.locations.len long (omega arith) ∙ c.clear-2.ensures in
+    let locations_long = ap length locations ∙ length-replicate count None in
     let greatest : length old ≡ c.args.self.now.greatest = ap (λ (v : PostedView). v.greatest) c.self.view_is in
-    kept_empty c.args.size c.fill.new.self c.clear.new.self _ (ap (entries 0) places ∙ entries_of_none 0 count) (omega (arith, places_long, c.requires)) (omega (arith, places_long, c.self.invariant.bound)) (omega (arith, places_long, c.fill.ensures.room, c.self.invariant.room)) (c.clear.ensures.room ∙ c.self.invariant.room_for_tags)
+    kept_empty c.args.size c.fill.new.self c.clear.new.self _ (ap (entries 0) locations ∙ entries_of_none 0 count) (omega (arith, locations_long, c.requires)) (omega (arith, locations_long, c.self.invariant.bound)) (omega (arith, locations_long, c.fill.ensures.room, c.self.invariant.room)) (c.clear.ensures.room ∙ c.self.invariant.room_for_tags)
     c.fill.ensures.members c.clear.ensures.empty
 
 pub returns : goal.returns
 returns c =
-    let old : List (Option Posted) = c.self.inside.places.items in
+    let old : List (Option Posted) = c.self.inside.locations.items in
     let count : ℕ = length c.as_mut_slice.result.now in
     let same : count ≡ length old = ap length c.as_mut_slice.ensures.value in
-    let long : length c.clear-2.new.places ≡ length old = ap length c.clear-2.ensures ∙ length-replicate count None ∙ same in
-    let places = written_over c.clear-2.new.places old c.self.inside.places.len long (omega arith) ∙ c.clear-2.ensures in
-    same_view c.args.size _ c.args.self.now.greatest _ _ (ap length places ∙ length-replicate count None ∙ same ∙ ap (λ (v : PostedView). v.greatest) c.self.view_is) (ap (entries 0) places ∙ entries_of_none 0 count)
+    let long : length c.clear-2.new.locations ≡ length old = ap length c.clear-2.ensures ∙ length-replicate count None ∙ same in
+    let locations = written_over c.clear-2.new.locations old c.self.inside.locations.len long (omega arith) ∙ c.clear-2.ensures in
+    same_view c.args.size _ c.args.self.now.greatest _ _ (ap length locations ∙ length-replicate count None ∙ same ∙ ap (λ (v : PostedView). v.greatest) c.self.view_is) (ap (entries 0) locations ∙ entries_of_none 0 count)

@@ -14,10 +14,10 @@ returns-clause-memory c =
     let mem : List ℕ = c.args.mem.now.bytes in
     let q : DeviceQueue = record { cfg = i.cfg; taken = i.taken; taken_wrap = true; used = i.used; used_wrap = true } in
     let areas : IsTrue (split_areas_inside (length mem) i.cfg) = subst (λ (v : DeviceQueue). IsTrue (split_areas_inside (length mem) v.cfg)) (sym c.self.view_is) c.requires.areas in
-    let put : ℕ → List ℕ → List ℕ = λ place element. put_at mem (i.cfg.device + (4 + 8 * place)) element in
+    let put : ℕ → List ℕ → List ℕ = λ location element. put_at mem (i.cfg.device + (4 + 8 * location)) element in
     let element = c.put.ensures.bytes
-    ∙ ap (put c.ring_place-place.result) c.used_element-element.ensures
-    ∙ ap (λ place. put place (little_bytes 4 c.args.chain.now.id ++ little_bytes 4 c.args.len)) c.ring_place-place.ensures in
+    ∙ ap (put c.ring_location-location.result) c.used_element-element.ensures
+    ∙ ap (λ location. put location (little_bytes 4 c.args.chain.now.id ++ little_bytes 4 c.args.len)) c.ring_location-location.ensures in
     let given : c.put_le16.new.mem.bytes ≡ split_given_memory mem q c.args.chain.now.id c.args.len =
     c.put_le16.ensures.bytes ∙ ap (λ (m : List ℕ). put_at m (i.cfg.device + 2) (le16_of (next_used q))) element in
     ap length given ∙ length-split_given_memory mem q c.args.chain.now.id c.args.len areas (ring_size_facts i.cfg.size c.self.invariant).some

@@ -1,7 +1,7 @@
 use Rattle.std.proofs.Common.{◌≡◌, ℕ, ◌+◌, ◌%◌, ◌^◌, List, Some, ap, sym, ◌∙◌, subst, arith}
 use Rattle.vt_types.specs.Program.{Gives}
 use Rattle.port_access.specs.Accesses.{bytes_program}
-use Rattle.vq_common.specs.Map.{data_place}
+use Rattle.vt_layout.specs.QueueBlock.{data_address}
 use Rattle.vq_common.specs.Queue.{DriverQueue, Unreaped, unreaped_with, without}
 use Rattle.vq_posted.specs.Table.{PostedView}
 use Rattle.vq_posted.proofs.Each.{each-without, found_at}
@@ -36,13 +36,13 @@ returns-in-Some-clause-gives g c =
     let p2 = c.ask_next.new.port in
     let bytes : List ℕ = c.get_data.new.room.items in
     let (u, k, h) = found_at IsSplitBuffer id us c.in-Some.found c.self.invariant.each c.in-Some.ensures in
-    let place : data_place i.ring.base id + c.in-Some.found.readable ≡ data_place q.base u.id + u.readable
-    = ap (λ (n : ℕ). data_place i.ring.base n + c.in-Some.found.readable) (sym k.is) ∙ ap (λ (n : ℕ). data_place i.ring.base u.id + n) (sym k.readable)
+    let location : data_address i.ring.base id + c.in-Some.found.readable ≡ data_address q.base u.id + u.readable
+    = ap (λ (n : ℕ). data_address i.ring.base n + c.in-Some.found.readable) (sym k.is) ∙ ap (λ (n : ℕ). data_address i.ring.base u.id + n) (sym k.readable)
     in
-    let got_them = subst (λ (a : ℕ). Gives step marking (bytes_program a len) p bytes p1) place c.get_data.ensures.gives in
+    let got_them = subst (λ (a : ℕ). Gives step marking (bytes_program a len) p bytes p1) location c.get_data.ensures.gives in
     let after : c.remove.new.self.unreaped ≡ without u.id us = ap (λ (v : PostedView). v.unreaped) c.remove.ensures ∙ ap (λ (n : ℕ). without n us) (sym k.is) in
     subst (λ (s : SplitState). Gives step marking (reap_element s.queue len (unreaped_with id s.queue.unreaped)) p
     (Some (record { tag = c.in-Some.found.tag; len = len; bytes = bytes }), record q { used = (i.ring.used + 1) % 2 ^ 16; unreaped = c.remove.new.self.unreaped }) p2) c.self.view_is
     (subst (λ (t : ℕ). Gives step marking (reap_element q len (unreaped_with id us)) p (Some (record { tag = t; len = len; bytes = bytes }), record q { used = (i.ring.used + 1) % 2 ^ 16; unreaped = c.remove.new.self.unreaped }) p2) k.tag
     (subst (λ (vs : List Unreaped). Gives step marking (reap_element q len (unreaped_with id us)) p (Some (record { tag = u.tag; len = len; bytes = bytes }), record q { used = (i.ring.used + 1) % 2 ^ 16; unreaped = vs }) p2) (sym after)
-    (reap_found_gives step marking split_reaped used_event_put q u (unreaped_with id us) len bytes p p1 p2 k.named c.if-element-le8192.true got_them c.ask_next.ensures.gives)))
+    (reap_found_gives step marking split_reaped used_event_put q u (unreaped_with id us) len bytes p p1 p2 k.named c.if-element.true got_them c.ask_next.ensures.gives)))

@@ -15,8 +15,8 @@ pub invariant_of-self : goal.invariant_of-self
 invariant_of-self g c =
     let i = c.self.inside in
     let us : List Unreaped = i.posted.unreaped in
-    let places : List ℕ = c.add_lowest_free.new.descriptors.items in
-    let u : Unreaped = record { tag = c.args.buf.now.tag; id = head_of places; descriptors = places; slots = c.slots_of-slots.result; readable = c.len.result } in
+    let locations : List ℕ = c.add_lowest_free.new.descriptors.items in
+    let u : Unreaped = record { tag = c.args.buf.now.tag; id = head_of locations; descriptors = locations; slots = c.slots_of-slots.result; readable = c.len.result } in
     let few : i.posted.size ≤ 1024 = omega (arith, c.self.invariant.ring, i.ring.small) in
     let buffer : IsSplitBuffer u
     = record {
@@ -35,16 +35,16 @@ returns-clause-gives g c =
     let view : q ≡ c.args.self.now.queue = ap (λ (s : SplitState). s.queue) c.self.view_is in
     let slots : c.slots_of-slots.result ≡ slots_of b = c.slots_of-slots.ensures.value in
     let room : slots_of b ≤ free_slots q = omega (arith, slots, c.free.ensures.value, c.if-slots-free.false, ap free_slots view) in
-    let places : c.add_lowest_free.new.descriptors.items ≡ descriptors_for q b
+    let locations : c.add_lowest_free.new.descriptors.items ≡ descriptors_for q b
     = c.add_lowest_free.ensures.value
     ∙ ap (λ (n : ℕ). take n (free_descriptors i.posted.size us)) (c.from.ensures ∙ slots)
     ∙ ap (λ (n : ℕ). take (slots_of b) (free_descriptors n us)) c.self.invariant.ring
     in
     let done : Does g.P.Port.step g.P.Port.marking (split_post_accesses q b) c.args.port.now c.put_buffer.new.port
-    = subst (λ (ns : List ℕ). Does g.P.Port.step g.P.Port.marking (post_puts q b ns) c.args.port.now c.put_buffer.new.port) (c.as_slice.ensures.value ∙ places) c.put_buffer.ensures.does
+    = subst (λ (ns : List ℕ). Does g.P.Port.step g.P.Port.marking (post_puts q b ns) c.args.port.now c.put_buffer.new.port) (c.as_slice.ensures.value ∙ locations) c.put_buffer.ensures.does
     in
     let after : c.add.new.self.unreaped ≡ (split_posted q b).unreaped
-    = ap (λ (v : PostedView). v.unreaped) c.add.ensures ∙ posted_are q b c.add_lowest_free.new.descriptors.items c.slots_of-slots.result c.len.result places slots c.len.ensures
+    = ap (λ (v : PostedView). v.unreaped) c.add.ensures ∙ posted_are q b c.add_lowest_free.new.descriptors.items c.slots_of-slots.result c.len.result locations slots c.len.ensures
     in
     subst (λ (r : DriverQueue). Gives g.P.Port.step g.P.Port.marking (post_program split_post_accesses split_posted r b) c.args.port.now (true, record q { available = (i.ring.available + 1) % 2 ^ 16; unreaped = c.add.new.self.unreaped }) c.mark.new.self) view
     (subst (λ (vs : List Unreaped). Gives g.P.Port.step g.P.Port.marking (post_program split_post_accesses split_posted q b) c.args.port.now (true, record q { available = (i.ring.available + 1) % 2 ^ 16; unreaped = vs }) c.mark.new.self) (sym after)

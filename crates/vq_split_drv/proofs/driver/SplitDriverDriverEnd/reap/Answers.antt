@@ -2,7 +2,7 @@ use Rattle.std.proofs.Common.{◌≡◌, ℕ, ◌+◌, ◌*◌, ◌%◌, List, a
 use Rattle.byteorder.specs.Endian.{little_number}
 use Rattle.vt_types.specs.Program.{Gives}
 use Rattle.port_access.specs.Accesses.{get_bytes, mark_alone}
-use Rattle.vq_common.specs.Map.{device_area}
+use Rattle.vt_layout.specs.QueueBlock.{device_area}
 use Rattle.vq_common.specs.Queue.{DriverQueue, reaped_value, unreaped_with}
 use Rattle.vq_split_drv.specs.Driver.{SplitState}
 use Rattle.vq_split_drv.specs.Reap.{reap_element}

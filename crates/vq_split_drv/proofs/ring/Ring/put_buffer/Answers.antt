@@ -1,7 +1,7 @@
 use Rattle.std.proofs.Common.{ℕ, ap, arith, subst}
 use Rattle.vt_types.specs.Operation.{PostedBuffer, posted_buffer}
 use Rattle.vt_types.specs.Program.{Does, cost_of_all}
-use Rattle.vq_common.specs.Map.{data_place}
+use Rattle.vt_layout.specs.QueueBlock.{data_address}
 use Rattle.vq_common.specs.Queue.{DriverQueue}
 use Rattle.vq_split_drv.specs.Driver.{ring_queue}
 use Rattle.port_access.specs.Accesses.{data_puts}
@@ -14,20 +14,20 @@ pub put_chain-requires-clause-credit : goal.put_chain-requires-clause-credit
 put_chain-requires-clause-credit g c =
     let q : DriverQueue = ring_queue c.args.self.now in
     let b : PostedBuffer = posted_buffer c.args.buf.now in
-    omega (arith, cost_of_parts q b c.args.places.now, ap (λ (h : ℕ). cost_of_all (data_puts (data_place q.base h) b.readable)) c.head-first.ensures)
+    omega (arith, cost_of_parts q b c.args.locations.now, ap (λ (h : ℕ). cost_of_all (data_puts (data_address q.base h) b.readable)) c.head-first.ensures)
 
 pub put_available-requires-clause-credit : goal.put_available-requires-clause-credit
 put_available-requires-clause-credit g c =
     let q : DriverQueue = ring_queue c.args.self.now in
     let b : PostedBuffer = posted_buffer c.args.buf.now in
-    omega (arith, cost_of_parts q b c.args.places.now, ap (λ (h : ℕ). cost_of_all (data_puts (data_place q.base h) b.readable)) c.head-first.ensures)
+    omega (arith, cost_of_parts q b c.args.locations.now, ap (λ (h : ℕ). cost_of_all (data_puts (data_address q.base h) b.readable)) c.head-first.ensures)
 
 pub returns-clause-does : goal.returns-clause-does
 returns-clause-does g c =
     let q : DriverQueue = ring_queue c.args.self.now in
     let b : PostedBuffer = posted_buffer c.args.buf.now in
-    post_does g.P.Port.step g.P.Port.marking q b c.args.places.now c.args.port.now c.put_data.new.port c.put_chain.new.port c.put_available.new.port
-    (subst (λ (h : ℕ). Does g.P.Port.step g.P.Port.marking (data_puts (data_place q.base h) b.readable) c.args.port.now c.put_data.new.port) c.head-first.ensures c.put_data.ensures.does)
+    post_does g.P.Port.step g.P.Port.marking q b c.args.locations.now c.args.port.now c.put_data.new.port c.put_chain.new.port c.put_available.new.port
+    (subst (λ (h : ℕ). Does g.P.Port.step g.P.Port.marking (data_puts (data_address q.base h) b.readable) c.args.port.now c.put_data.new.port) c.head-first.ensures c.put_data.ensures.does)
     c.put_chain.ensures.does
     (subst (λ (h : ℕ). Does g.P.Port.step g.P.Port.marking (available_puts q h) c.put_chain.new.port c.put_available.new.port) c.head-first.ensures c.put_available.ensures.does)
 
@@ -35,4 +35,4 @@ pub returns-clause-credit : goal.returns-clause-credit
 returns-clause-credit g c =
     let q : DriverQueue = ring_queue c.args.self.now in
     let b : PostedBuffer = posted_buffer c.args.buf.now in
-    omega (arith, cost_of_parts q b c.args.places.now, ap (λ (h : ℕ). cost_of_all (data_puts (data_place q.base h) b.readable)) c.head-first.ensures)
+    omega (arith, cost_of_parts q b c.args.locations.now, ap (λ (h : ℕ). cost_of_all (data_puts (data_address q.base h) b.readable)) c.head-first.ensures)
