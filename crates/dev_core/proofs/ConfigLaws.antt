@@ -1,4 +1,4 @@
--- Bytes of a configuration from a place on.
+-- Bytes of a configuration from a location on.
 use Rattle.std.proofs.Common.{◌≡◌, ℕ, zero, suc, ◌+◌, List, [], ◌∷◌, ◌++◌, get_or, refl, ap, arith}
 use Rattle.dev_core.specs.Config.{bytes_at}
 

@@ -1,6 +1,7 @@
 -- What the steps of serving a queue come to.
 use Rattle.std.proofs.Common.{◌≡◌, ℕ, zero, suc, ◌≤◌, List, [], ◌∷◌, length, true, false, IsTrue, Option, Some, None, refl, sym, ◌∙◌, ap, arith}
 use Rattle.std.specs.Prelude.{◌+◌, slice_get, slice_set}
+use Rattle.vt_types.specs.Limits.{LONGEST_BUFFER}
 use Rattle.vq_common.specs.declared.chain.Piece.{Piece}
 use Rattle.vq_common.specs.Piece.{keeps_rules, readable, room}
 use Rattle.vq_common.specs.Chain.{ChainValue, Walked, Bad, Front, IsShown}
@@ -15,7 +16,6 @@ use Rattle.dev_core.specs.declared.ring.RingKind.TheVariants.{Split}
 use Rattle.dev_core.specs.declared.served.Served.TheVariants as served
 use Rattle.dev_core.specs.Device.{DeviceState, QueueState, with_queue}
 use Rattle.dev_core.specs.Devices.{Devices}
-use Rattle.dev_core.specs.Pages.{CONSOLE_BYTES_OF_SERVE}
 use Rattle.dev_core.specs.Ring.{SetRing, showed, walk}
 use Rattle.dev_core.specs.Serve.{IsTaken, broken_by, devices_of, idle, serve_ring, serve_shown}
 
@@ -39,11 +39,11 @@ taken_by Split mem q c is =
 pub taken : (mem : List ℕ) (r r2 : SetRing) (c : ChainValue) → Front c ≡ walk r.kind mem r.queue → r2 ≡ showed r (Front c) → IsTaken (length mem) r2 c
 taken mem r r2 c shows is = rw is (taken_by r.kind mem r.queue c (sym shows))
 
--- serving a chain takes no more room of the console than a chain may have bytes
+-- serving a chain takes no more spare bytes of the console than a chain may have bytes
 pub serves-spare : (n : ℕ) (mem mem2 : List ℕ) (ps : List Piece) (old new : ConsoleState) (count : ℕ) → IsTrue (keeps_rules (length mem) ps)
-    → Serves (chain_answer n mem ps old) ps mem mem2 old new count → old.spare ≤ new.spare + CONSOLE_BYTES_OF_SERVE
+    → Serves (chain_answer n mem ps old) ps mem mem2 old new count → old.spare ≤ new.spare + LONGEST_BUFFER
 serves-spare n mem mem2 ps old new count rules served =
-    let few : length (readable mem ps) ≤ 8192 = readable_fits mem ps rules in
+    let few : length (readable mem ps) ≤ LONGEST_BUFFER = readable_fits mem ps rules in
     let more : length new.console ≤ length old.console + length (readable mem ps) =
     rw served.console (console-le n (readable mem ps) (room ps) old.waiting old.console) in
     omega (arith, served.spare)

@@ -1,9 +1,10 @@
-use Rattle.std.specs.Prelude.{◌≡◌, ℕ, ◌^◌, List, [], Bool, false, Option, Some, None, replicate, if◌then◌else◌}
+use Rattle.std.specs.Prelude.{◌≡◌, ℕ, List, [], Bool, false, Option, Some, None, replicate, if◌then◌else◌}
 use Rattle.vt_types.specs.declared.access.Answer.{Answer}
 use Rattle.vt_types.specs.declared.device.Dev.{Dev}
 use Rattle.vt_types.specs.declared.operation.Event.{Event}
 use Rattle.vt_types.specs.declared.operation.Event.TheVariants as event
 use Rattle.vt_types.specs.Access.{AccessValue, Load, Store, Put, Get, Zero, Swap, CfgLoad, CfgStore, Ssch, Tsch, Stsch, Msch, Csch, TurnOf, Diag}
+use Rattle.vt_types.specs.Limits.{LONGEST_MEMORY}
 use Rattle.vt_types.specs.Program.{got, is_got}
 use Rattle.vt_types.specs.Status.{DRIVER_OK}
 use Rattle.memory_port.specs.MemoryTable.{memory_table}
@@ -28,9 +29,9 @@ pub record BusTable (R : Type 0) : Type 0 where
   pub queue_signal : Dev → ℕ → R → List ℕ → R × List ℕ
   pub config_signal : Dev → R → List ℕ → R × List ℕ
 
--- guest memory has 2 ^ 28 bytes (our own)
+-- how many bytes guest memory has. Proofs open this by name alone, since a list of so many zeros would fill each goal
 unfoldable pub MEMORY_LENGTH : ℕ
-MEMORY_LENGTH = 2 ^ 28
+MEMORY_LENGTH = LONGEST_MEMORY
 
 -- the raw machine at the start: memory is all zeros
 abbrev pub new_raw : {R : Type 0} → BusTable R → Raw R

@@ -1,8 +1,7 @@
-use Rattle.std.specs.Prelude.{ℕ, zero, suc, ◌+◌, ◌%◌, ◌^◌, ◌&&◌, not, nat_le, List, length, Bool, true, false, Option, Some, None, is_some, replicate, slice_get, slice_set, if◌then◌else◌}
-use Rattle.vt_types.specs.Device.{GREATEST_QUEUE}
+use Rattle.std.specs.Prelude.{ℕ, zero, suc, ◌+◌, ◌%◌, ◌^◌, ◌&&◌, not, List, length, Bool, true, false, Option, Some, None, is_some, replicate, slice_get, slice_set, if◌then◌else◌}
 use Rattle.vt_types.specs.Features.{INDIRECT_DESC, EVENT_IDX}
 use Rattle.vq_common.specs.declared.chain.RingCfg.{RingCfg}
-use Rattle.vq_common.specs.Queue.{new_device_queue, is_ring_size}
+use Rattle.vq_common.specs.Queue.{new_device_queue, is_queue_size}
 use Rattle.dev_status.specs.Status.{StatusState, feature_word, has_bits, reset_of, write_of}
 use Rattle.dev_core.specs.declared.ring.RingKind.TheVariants.{Split}
 use Rattle.dev_core.specs.Ring.{SetRing}
@@ -43,10 +42,6 @@ next_generation d = record d { generation = (d.generation + 1) % 2 ^ 32 }
 -- the device with another queue of this number
 abbrev pub with_queue : DeviceState → ℕ → QueueState → DeviceState
 with_queue d n q = record d { queues = slice_set d.queues n q }
-
--- the sizes that a queue of a device may have
-abbrev pub is_queue_size : ℕ → Bool
-is_queue_size n = is_ring_size n && nat_le n GREATEST_QUEUE
 
 -- a ring at these areas, of this size: its kind and its two features are by the accepted features at the moment when it is
 -- set; packed rings are not offered yet

@@ -3,7 +3,7 @@ use Rattle.vt_types.specs.declared.device.Dev.{Dev}
 use Rattle.vt_types.specs.declared.device.Dev.TheVariants.{Blk, Net, Con}
 use Rattle.vt_types.specs.declared.operation.Event.{Event}
 use Rattle.vt_types.specs.declared.operation.Event.TheVariants as event
-use Rattle.vt_types.specs.Device.{queue_count}
+use Rattle.vt_types.specs.Device.{START_COLS, START_ROWS, queue_count}
 use Rattle.vt_outside.specs.Tripped.{TrippedView}
 use Rattle.dev_status.specs.Features.{features_of}
 use Rattle.dev_console.specs.Console.{with_input}
@@ -18,16 +18,16 @@ pub record Devices : Type 0 where
   pub waiting : List ℕ
   pub console : List ℕ
 
--- the set as its calls see it: beside the devices, for how many more console bytes there is room, and the disk behind the
--- block device, which no device asks yet
+-- the set as its calls see it: beside the devices, how many spare bytes the console has, and the disk behind the block
+-- device, which no device asks yet
 pub record SetView : Type 0 where
   pub devices : Devices
   pub spare : ℕ
   pub disk : TrippedView
 
--- the devices at the start: a console of 80 columns and 25 rows (our own)
+-- the devices at the start: a console of its starting size
 abbrev pub new_devices : Devices
-new_devices = record { con = new_device (features_of Con false) (queue_count Con); cols = 80; rows = 25; waiting = []; console = [] }
+new_devices = record { con = new_device (features_of Con false) (queue_count Con); cols = START_COLS; rows = START_ROWS; waiting = []; console = [] }
 
 -- a device, where it is there
 abbrev pub device : Devices → Dev → Option DeviceState

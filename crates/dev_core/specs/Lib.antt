@@ -6,3 +6,4 @@ pub mod Pages
 pub mod Ring
 pub mod RingValue
 pub mod Serve
+pub mod There

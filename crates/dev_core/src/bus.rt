@@ -22,7 +22,7 @@ pub trait Bus {
     /// Does an access of this bus. An access that it does not have answers `NoSuch` and changes nothing; those of guest
     /// memory (put, get, zero, swap) are the same on every bus, and are not its own.
     ///
-    /// Guest memory has as many spare pages as the access costs, and the console as much room.
+    /// Guest memory has as many spare pages as the access costs, and the console as many spare bytes.
     fn access<D: Disk>(
         &mut self,
         mem: &mut GuestMem,

@@ -16,14 +16,14 @@ pub fn console_configuration(cols: u16, rows: u16) -> [u8; 12]
     bytes
 }
 
-/// The byte at a place; 0 past their end.
+/// The byte at a location; 0 past their end.
 fn byte_at(bytes: &[u8], at: usize) -> u8
     ensures { result ≡ slice_index bytes.now at }
 {
     bytes.get(at).copied().unwrap_or(0)
 }
 
-/// Fills a room with the bytes from a place on, and with zeros past their end.
+/// Fills a room with the bytes from a location on, and with zeros past their end.
 pub fn read_at(bytes: &[u8], at: u32, room: &mut [u8])
     ensures { room.new ≡ bytes_at bytes.now at (length room.old) }
 {
@@ -33,7 +33,7 @@ pub fn read_at(bytes: &[u8], at: u32, room: &mut [u8])
     }
 }
 
-/// Whether bytes that are written from a place on cover so many from another.
+/// Whether bytes that are written from a location on cover so many from another.
 pub fn is_covered(at: u32, bytes: &[u8], from: u32, count: u32) -> bool
     ensures { result ≡ covers at bytes.now from count }
 {

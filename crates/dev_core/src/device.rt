@@ -2,7 +2,8 @@
 
 ghost use Rattle.std.specs.Prelude.{◌≡◌, ◌<◌, ◌≤◌, IsTrue, nat_lt, true, None, Some, IfOk, MatchOption, length, replicate, slice_get};
 ghost use Rattle.dev_status.specs.Status.{accept_of, feature_word, needs_reset_of};
-ghost use Rattle.dev_core.specs.Device.{is_queue_set, is_queue_size, kick_queue, may_set, new_device, next_generation, reset_device, set_device_queue, unset, unset_device_queue, write_device_status};
+ghost use Rattle.vq_common.specs.Queue.{is_queue_size};
+ghost use Rattle.dev_core.specs.Device.{is_queue_set, kick_queue, may_set, new_device, next_generation, reset_device, set_device_queue, unset, unset_device_queue, write_device_status};
 ghost use Rattle.dev_core.specs.Serve.{is_driven};
 
 use crate::queue::Queue;
@@ -11,7 +12,7 @@ use dev_status::StatusMachine;
 use std::alloc::Global;
 use std::marker::Model;
 use vq_common::{RingCfg, is_ring_size};
-use vt_types::{Features, MAX_QUEUE, Memory, Status};
+use vt_types::{Features, GREATEST_QUEUE, Memory, Status};
 
 /// A device's status machine, the generation of its configuration, and its queues.
 #[derive(Drop)]
@@ -172,17 +173,17 @@ impl Device {
     /// Whether a queue may be set: the device has it, it is not set, and the size is allowed.
     fn may_set(&self, number: u16, cfg: &RingCfg) -> bool
         ensures value { result ≡ may_set (slice_get self.now.queues number) cfg.now }
-        ensures place { result ≡ true → number < length self.now.queues }
+        ensures location { result ≡ true → number < length self.now.queues }
         ensures size { result ≡ true → IsTrue (is_queue_size cfg.now.size) }
     {
         match self.queue(number) {
-            Some(queue) => !queue.is_set() && is_ring_size(cfg.size) && cfg.size <= MAX_QUEUE,
+            Some(queue) => !queue.is_set() && is_ring_size(cfg.size) && cfg.size <= GREATEST_QUEUE,
             None => false,
         }
     }
 
     /// Sets a queue. False, and nothing changes, exactly where the device has no such queue, it is set, or the size is not
-    /// a power of two up to `MAX_QUEUE`. Of the configuration the three areas and the size are used.
+    /// a power of two up to `GREATEST_QUEUE`. Of the configuration the three areas and the size are used.
     pub fn set_queue(&mut self, number: u16, cfg: &RingCfg) -> bool
         ensures device { self.new ≡ set_device_queue self.old number cfg.now }
         ensures answer { result ≡ may_set (slice_get self.old.queues number) cfg.now }

@@ -14,8 +14,10 @@ mod served;
 mod set;
 #[cfg(test)]
 mod tests;
+mod there;
 
 pub use bus::Bus;
 pub use ring::RingKind;
 pub use served::Served;
 pub use set::DeviceSet;
+pub use there::{is_event_there, is_there};

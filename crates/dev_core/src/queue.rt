@@ -1,7 +1,8 @@
 //! A queue of a device.
 
 ghost use Rattle.std.specs.Prelude.{◌≡◌, IsTrue, false, Some, None, is_some};
-ghost use Rattle.dev_core.specs.Device.{is_queue_size, kicked, ring_for, unset};
+ghost use Rattle.vq_common.specs.Queue.{is_queue_size};
+ghost use Rattle.dev_core.specs.Device.{kicked, ring_for, unset};
 
 use crate::ring::Ring;
 use std::marker::Model;

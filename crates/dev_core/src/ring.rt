@@ -3,7 +3,8 @@
 ghost use Rattle.std.specs.Prelude.{◌≡◌, ◌+◌, ◌≤◌, IsTrue, length};
 ghost use Rattle.vq_common.specs.Chain.{chain_value, walked};
 ghost use Rattle.vq_common.specs.Pages.{PAGES_OF_GIVE};
-ghost use Rattle.dev_core.specs.Device.{is_queue_size, ring_for};
+ghost use Rattle.vq_common.specs.Queue.{is_queue_size};
+ghost use Rattle.dev_core.specs.Device.{ring_for};
 ghost use Rattle.dev_core.specs.Ring.{areas_inside, given, shown, showed};
 ghost use Rattle.dev_core.specs.RingValue.{ring_value};
 

@@ -4,12 +4,13 @@ ghost use Rattle.std.specs.Prelude.{◌≡◌, ℕ, ◌+◌, ◌-◌, ◌≤◌,
 ghost use Rattle.vt_outside.specs.Disk.{Called, Reads};
 ghost use Rattle.vt_outside.specs.DiskCall.{peek_call};
 ghost use Rattle.vt_outside.specs.Meets.{Meets, bytes_read};
+ghost use Rattle.vt_types.specs.Limits.{LONGEST_BUFFER, MOST_SECTORS};
 ghost use Rattle.vt_types.specs.Status.{FEATURES_OK};
 ghost use Rattle.dev_status.specs.Status.{accept_of, has_bits};
 ghost use Rattle.dev_core.specs.Config.{config_bytes, write_configuration};
 ghost use Rattle.dev_core.specs.Device.{accepted_of, feature_word_of, generation_of, is_set_in, kick_queue, may_set_in, queues_of, reset_device, set_device_queue, status_of, unset_device_queue, write_device_status};
 ghost use Rattle.dev_core.specs.Devices.{backend, device, new_devices, with_device};
-ghost use Rattle.dev_core.specs.Pages.{CONSOLE_BYTES_OF_SERVE, PAGES_OF_SERVE};
+ghost use Rattle.dev_core.specs.Pages.{PAGES_OF_SERVE};
 ghost use Rattle.dev_core.specs.Serve.{serve};
 
 use crate::config::{console_configuration, is_covered, read_at};
@@ -17,13 +18,13 @@ use crate::device::Device;
 use crate::serve::serve_console;
 use crate::served::Served;
 use bitflags::Flags;
-use dev_console::{CONSOLE_ROOM, ConState};
+use dev_console::{CONSOLE_SPARE, ConState};
 use guest_mem::GuestMem;
 use std::alloc::Global;
 use std::marker::Model;
 use vq_common::RingCfg;
 use vt_outside::{Back, Disk, Failed, Tripped};
-use vt_types::{Dev, Event, Features, Memory, Status};
+use vt_types::{Dev, Event, Features, Memory, START_COLS, START_ROWS, Status};
 
 /// The features that the console offers (VIRTIO 1.2, 5.3.3 and 6).
 const CONSOLE_FEATURES: Features = Features(
@@ -33,11 +34,6 @@ const CONSOLE_FEATURES: Features = Features(
         | Features::EVENT_IDX.0
         | Features::VERSION_1.0,
 );
-
-/// The columns and the rows of a console at the start (our own).
-const COLS: u16 = 80;
-
-const ROWS: u16 = 25;
 
 /// Where emerg_wr stands in the console's configuration, and how many bytes it has (VIRTIO 1.2, 5.3.4).
 const EMERGENCY: u32 = 8;
@@ -80,19 +76,19 @@ impl<D: Disk> DeviceSet<D> {
         };
         Ok(DeviceSet {
             con,
-            cols: COLS,
-            rows: ROWS,
+            cols: START_COLS,
+            rows: START_ROWS,
             state,
             disk: Tripped::new(disk),
         })
     }
 
-    /// Makes room for at least `CONSOLE_ROOM` console bytes.
+    /// Sees to it that the console has at least `CONSOLE_SPARE` spare bytes.
     pub fn reserve(&mut self, alloc: Global) -> Result<(), Memory>
         ensures devices { self.new.devices ≡ self.old.devices }
         ensures disk { self.new.disk ≡ self.old.disk }
         ensures spare { self.old.spare ≤ self.new.spare }
-        ensures ok { OnOk result (CONSOLE_ROOM ≤ self.new.spare) }
+        ensures ok { OnOk result (CONSOLE_SPARE ≤ self.new.spare) }
     {
         self.state.reserve(alloc)
     }
@@ -193,7 +189,7 @@ impl<D: Disk> DeviceSet<D> {
     }
 
     /// Sets a queue. False, and nothing changes, exactly where the device has no such queue, it is set, or the size is not
-    /// a power of two from 1 to `MAX_QUEUE`. Of the configuration the three areas and the size are used; the ring's kind
+    /// a power of two from 1 to `GREATEST_QUEUE`. Of the configuration the three areas and the size are used; the ring's kind
     /// and its features are by the accepted ones.
     pub fn set_queue(&mut self, dev: Dev, queue: u16, cfg: &RingCfg) -> bool
         ensures devices { self.new ≡ record self.old { devices = with_device (λ d. set_device_queue d queue cfg.now) self.old.devices dev } }
@@ -225,7 +221,7 @@ impl<D: Disk> DeviceSet<D> {
         }
     }
 
-    /// Fills a room with the bytes of a device's configuration from a place on, and with zeros past its end.
+    /// Fills a room with the bytes of a device's configuration from a location on, and with zeros past its end.
     pub fn read_config(&self, dev: Dev, off: u32, room: &mut [u8])
         ensures { room.new ≡ config_bytes self.now.devices dev off (length room.old) }
     {
@@ -235,8 +231,8 @@ impl<D: Disk> DeviceSet<D> {
         }
     }
 
-    /// Writes bytes of a device's configuration from a place on; what no field takes is ignored. A write that covers all
-    /// of the console's emerg_wr adds its first byte to the console's, for which there is room.
+    /// Writes bytes of a device's configuration from a location on; what no field takes is ignored. A write that covers all
+    /// of the console's emerg_wr adds its first byte to the console's, which takes a spare one.
     pub fn write_config(&mut self, dev: Dev, off: u32, bytes: &[u8])
         requires { 1 ≤ self.old.spare }
         ensures devices { self.new.devices ≡ write_configuration self.old.devices dev off bytes.now }
@@ -254,13 +250,13 @@ impl<D: Disk> DeviceSet<D> {
     }
 
     /// Serves one buffer of a queue (VIRTIO 1.2, 2.6). It makes at most `PAGES_OF_SERVE` pages of guest memory, and adds
-    /// at most `CONSOLE_BYTES_OF_SERVE` bytes to the console's.
+    /// at most `LONGEST_BUFFER` bytes to the console's.
     pub fn serve(&mut self, mem: &mut GuestMem, dev: Dev, queue: u16) -> Served
-        requires console { CONSOLE_BYTES_OF_SERVE ≤ self.old.spare }
+        requires console { LONGEST_BUFFER ≤ self.old.spare }
         requires pages { PAGES_OF_SERVE ≤ mem.old.spare }
         ensures serves { serve self.old.devices dev queue mem.old.bytes ≡ record { served = result; devices = self.new.devices; memory = mem.new.bytes } }
         ensures spare { self.new.spare + length self.new.devices.console ≡ self.old.spare + length self.old.devices.console }
-        ensures console { self.old.spare ≤ self.new.spare + CONSOLE_BYTES_OF_SERVE }
+        ensures console { self.old.spare ≤ self.new.spare + LONGEST_BUFFER }
         ensures pages { mem.old.spare ≤ mem.new.spare + PAGES_OF_SERVE }
         ensures disk { self.new.disk ≡ self.old.disk }
     {
@@ -302,10 +298,10 @@ impl<D: Disk> DeviceSet<D> {
         self.state.console()
     }
 
-    /// How many sectors the disk has: at most 65,536.
+    /// How many sectors the disk has: at most `MOST_SECTORS`.
     pub fn disk_sectors(&self) -> u64
         ensures value { result ≡ self.now.disk.disk.count }
-        ensures bound { result ≤ 65536 }
+        ensures bound { result ≤ MOST_SECTORS }
         ensures whole { IfSome self.now.disk.disk.image (λ image. length image ≡ result) }
     {
         self.disk.sectors()

@@ -1,6 +1,6 @@
 //! A console that is brought up and served.
 
-use crate::{DeviceSet, Served};
+use crate::{DeviceSet, Served, is_event_there, is_there};
 use guest_mem::GuestMem;
 use std::alloc::Global;
 use std::process::Abort;
@@ -64,7 +64,7 @@ fn post(rt: &impl Abort, mem: &mut GuestMem, queue: u16, descriptor: &Descriptor
     put(rt, mem, ring.driver, &[0, 0, 1, 0, 0, 0]);
 }
 
-/// Serves a queue of the console, with room for what it may take.
+/// Serves a queue of the console, once what it may take is spare.
 fn serve(
     alloc: Global,
     set: &mut DeviceSet<MemDisk>,
@@ -211,6 +211,17 @@ fn a_malformed_chain_wants_a_reset(rt: HostRuntime) -> Result<(), Fail> {
         Served::Idle
     );
     Ok(())
+}
+
+#[test]
+fn the_console_alone_is_there(rt: HostRuntime) {
+    for (dev, there) in [(Dev::Con, true), (Dev::Blk, false), (Dev::Net, false)] {
+        assert_eq!(rt; is_there(dev), there);
+        assert_eq!(rt; is_event_there(&Event::Serve { dev, queue: 0 }), there);
+    }
+    assert!(rt; is_event_there(&Event::Consize { cols: 80, rows: 25 }));
+    assert!(rt; !is_event_there(&Event::Link(true)));
+    assert!(rt; !is_event_there(&Event::Resize(7)));
 }
 
 #[test]

@@ -6,13 +6,13 @@ use Rattle.mmio_regs.specs.declared.page.QueueRegisters.{QueueRegisters}
 use Rattle.dev_core.specs.Device.{is_queue_set}
 use Rattle.mmio_regs.specs.MmioTable.{DevicePage, change_registers, change_selected, selected}
 
--- there is an element at a place below the length
+-- there is an element at a location below the length
 pub at_below : {X : Type 0} (xs : List X) (n : ℕ) → n < length xs → (x : X) × (slice_get xs n ≡ Some x)
 at_below [] n below = absurd (omega arith)
 at_below (x ∷ xs) zero below = (x, refl)
 at_below (x ∷ xs) (suc n) below = at_below xs n (omega arith)
 
--- where there is none, a write to the place changes nothing
+-- where there is none, a write to the location changes nothing
 set_none : {X : Type 0} (xs : List X) (n : ℕ) (x : X) → slice_get xs n ≡ None → slice_set xs n x ≡ xs
 set_none [] n x is = refl
 set_none (y ∷ xs) zero x is = absurd (none-some y (sym is))

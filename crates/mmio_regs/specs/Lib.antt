@@ -1,3 +1,2 @@
 pub mod MmioTable
 pub mod Page
-pub mod Registers

@@ -6,18 +6,18 @@ use Rattle.vt_types.specs.declared.device.Dev.{Dev}
 use Rattle.vt_types.specs.declared.device.Dev.TheVariants.{Blk, Net, Con}
 use Rattle.vt_types.specs.Access.{AccessValue, Load, Store, Put, Get, Zero, Swap, CfgLoad, CfgStore, Ssch, Tsch, Stsch, Msch, Csch, TurnOf, Diag}
 use Rattle.vt_types.specs.Device.{GREATEST_QUEUE, device_id}
-use Rattle.vt_layout.specs.Mmio.{PAGE_LENGTH, CONFIGURATION, page_address}
+use Rattle.vt_layout.specs.Interrupts.{USED_BUFFER, CONFIGURATION_CHANGE}
+use Rattle.vt_layout.specs.Mmio.{register_at, PAGE_LENGTH, CONFIGURATION, page_address}
 use Rattle.vq_common.specs.declared.chain.RingCfg.{RingCfg}
 use Rattle.dev_status.specs.Status.{accept_of, feature_word}
 use Rattle.dev_core.specs.Bus.{Raw, BusTable}
 use Rattle.dev_core.specs.Config.{config_bytes, write_configuration}
 use Rattle.dev_core.specs.Device.{DeviceState, QueueState, is_queue_set, set_device_queue, unset_device_queue, kick_queue, write_device_status}
 use Rattle.dev_core.specs.Devices.{Devices}
-use Rattle.mmio_regs.specs.declared.register.Register.{Register}
-use Rattle.mmio_regs.specs.declared.register.Register.TheVariants.{MagicValue, Version, DeviceId, VendorId, DeviceFeatures, DeviceFeaturesSel, DriverFeatures, DriverFeaturesSel, QueueSel, QueueNumMax, QueueNum, QueueReady, QueueNotify, InterruptStatus, InterruptAck, Status, QueueDescLow, QueueDescHigh, QueueDriverLow, QueueDriverHigh, QueueDeviceLow, QueueDeviceHigh, ShmLenLow, ShmLenHigh, ConfigGeneration}
+use Rattle.vt_layout.specs.declared.register.MmioRegister.{MmioRegister}
+use Rattle.vt_layout.specs.declared.register.MmioRegister.TheVariants.{MagicValue, Version, DeviceId, VendorId, DeviceFeatures, DeviceFeaturesSel, DriverFeatures, DriverFeaturesSel, QueueSel, QueueNumMax, QueueNum, QueueReady, QueueNotify, InterruptStatus, InterruptAck, Status, QueueDescLow, QueueDescHigh, QueueDriverLow, QueueDriverHigh, QueueDeviceLow, QueueDeviceHigh, ShmLenLow, ShmLenHigh, ConfigGeneration}
 use Rattle.mmio_regs.specs.declared.page.QueueRegisters.{QueueRegisters}
-use Rattle.mmio_regs.specs.Page.{Page, MmioRegisters, new_page, new_registers, USED_BUFFER, CONFIGURATION_CHANGE, with_interrupt, acknowledged, with_low, with_high}
-use Rattle.mmio_regs.specs.Registers.{register_at}
+use Rattle.mmio_regs.specs.Page.{Page, MmioRegisters, new_page, new_registers, with_interrupt, acknowledged, with_low, with_high}
 
 -- a device with its page
 pub record DevicePage : Type 0 where
@@ -51,7 +51,7 @@ abbrev pub number_of : Bool → ℕ
 number_of b = if b then 1 else 0
 
 -- what a register of the console loads (VIRTIO 1.2, 4.2.2); one that is only stored loads 0
-abbrev pub load_of : DevicePage → Register → ℕ
+abbrev pub load_of : DevicePage → MmioRegister → ℕ
 load_of d MagicValue = MAGIC
 load_of d Version = VERSION
 load_of d DeviceId = device_id Con
@@ -109,7 +109,7 @@ store_status v d =
     }
 
 -- what a store to a register leaves (VIRTIO 1.2, 4.2.2); a register that is only loaded ignores it
-abbrev pub store_of : Register → ℕ → DevicePage → DevicePage
+abbrev pub store_of : MmioRegister → ℕ → DevicePage → DevicePage
 store_of MagicValue value d = d
 store_of Version value d = d
 store_of DeviceId value d = d
@@ -149,11 +149,11 @@ abbrev pub console_offset : ℕ → Option ℕ
 console_offset addr = if nat_le (page_address Con) addr && nat_lt addr (page_address Con + PAGE_LENGTH) then Some (addr - page_address Con) else None
 
 -- a load of a register; where there is none at this offset and of this width, 0
-abbrev pub load_register : DevicePage → Option Register → ℕ
+abbrev pub load_register : DevicePage → Option MmioRegister → ℕ
 load_register d None = 0
 load_register d (Some r) = load_of d r
 
-abbrev pub store_register : Option Register → ℕ → DevicePage → DevicePage
+abbrev pub store_register : Option MmioRegister → ℕ → DevicePage → DevicePage
 store_register None value d = d
 store_register (Some r) value d = store_of r value d
 

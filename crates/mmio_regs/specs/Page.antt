@@ -3,6 +3,7 @@ use Rattle.std.specs.Int.RustNames.{bit_and, bit_or}
 use Rattle.vt_types.specs.declared.device.Dev.TheVariants.{Con}
 use Rattle.vt_types.specs.Device.{queue_count}
 use Rattle.dev_status.specs.Status.{has_bits}
+use Rattle.vt_layout.specs.Interrupts.{USED_BUFFER, CONFIGURATION_CHANGE}
 use Rattle.mmio_regs.specs.declared.page.QueueRegisters.{QueueRegisters}
 
 -- what the page of a device keeps beside the device: the selectors, InterruptStatus, and the registers of each queue
@@ -27,13 +28,6 @@ new_page queues =
 
 abbrev pub new_registers : MmioRegisters
 new_registers = record { con = new_page (queue_count Con) }
-
--- the bits of InterruptStatus (VIRTIO 1.2, 4.2.2): a used buffer, and a changed configuration
-abbrev pub USED_BUFFER : ℕ
-USED_BUFFER = 1
-
-abbrev pub CONFIGURATION_CHANGE : ℕ
-CONFIGURATION_CHANGE = 2
 
 -- a signal is shown by its bit
 abbrev pub with_interrupt : ℕ → Page → Page

@@ -5,13 +5,11 @@ ghost use Rattle.vt_types.specs.Access.{is_width};
 ghost use Rattle.mmio_regs.specs.MmioTable.{console_offset, load_at, mmio_table, signal, store_at};
 
 use crate::config::{load_config, store_config};
-use crate::interrupts::InterruptBits;
 use crate::page::Page;
-use crate::register::Register;
 use dev_core::{Bus, DeviceSet};
 use guest_mem::GuestMem;
 use std::marker::Model;
-use vt_layout::{CONFIGURATION, Mmio, RegisterLayout, page_address};
+use vt_layout::{CONFIGURATION, InterruptBits, Mmio, MmioRegister, RegisterLayout, page_address};
 use vt_outside::Disk;
 use vt_types::{Access, Answer, Dev};
 
@@ -53,7 +51,7 @@ impl MmioBus {
         if off >= CONFIGURATION {
             return load_config(set, off - CONFIGURATION, width);
         }
-        match Register::at(off, width) {
+        match MmioRegister::at(off, width) {
             Some(register) => self.con.load(set, register),
             None => 0,
         }
@@ -72,7 +70,7 @@ impl MmioBus {
         };
         if off >= CONFIGURATION {
             store_config(set, off - CONFIGURATION, width, value);
-        } else if let Some(register) = Register::at(off, width) {
+        } else if let Some(register) = MmioRegister::at(off, width) {
             self.con.store(set, register, value);
         }
     }

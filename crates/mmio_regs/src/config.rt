@@ -9,7 +9,7 @@ use dev_core::DeviceSet;
 use vt_outside::Disk;
 use vt_types::Dev;
 
-/// The number in so many bytes of the configuration from a place on: 1, 2 or 4 bytes. 0 where the place is not aligned to
+/// The number in so many bytes of the configuration from a location on: 1, 2 or 4 bytes. 0 where the location is not aligned to
 /// them, and past the end.
 pub fn load_config<D: Disk>(set: &DeviceSet<D>, at: u32, width: u8) -> u32
     requires { IsTrue (is_width width) }
@@ -23,7 +23,7 @@ pub fn load_config<D: Disk>(set: &DeviceSet<D>, at: u32, width: u8) -> u32
     LittleEndian::read_u32(&bytes)
 }
 
-/// Stores the low bytes of a number in the configuration from a place on: 1, 2 or 4 bytes. Nothing changes where the place
+/// Stores the low bytes of a number in the configuration from a location on: 1, 2 or 4 bytes. Nothing changes where the location
 /// is not aligned to them.
 pub fn store_config<D: Disk>(set: &mut DeviceSet<D>, at: u32, width: u8, value: u32)
     requires width { IsTrue (is_width width) }

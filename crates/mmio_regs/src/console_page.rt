@@ -5,11 +5,11 @@ ghost use Rattle.dev_core.specs.Device.{QueueState, is_queue_set, kick_queue};
 ghost use Rattle.mmio_regs.specs.MmioTable.{change_selected, described, load_of, number_max, selected, store_of, store_ready, store_status};
 
 use crate::page::{Page, QueueRegisters};
-use crate::register::Register;
 use dev_core::DeviceSet;
 use vq_common::RingCfg;
+use vt_layout::MmioRegister;
 use vt_outside::Disk;
-use vt_types::{Dev, MAX_QUEUE};
+use vt_types::{Dev, GREATEST_QUEUE};
 
 /// "virt", the lowest byte first, and the version of the registers (VIRTIO 1.2, 4.2.2).
 const MAGIC: u32 = 0x7472_6976;
@@ -58,34 +58,34 @@ fn described(registers: QueueRegisters) -> RingCfg
 
 impl Page {
     /// What a register loads; one that is only stored loads 0.
-    pub fn load<D: Disk>(&self, set: &DeviceSet<D>, register: Register) -> u32
+    pub fn load<D: Disk>(&self, set: &DeviceSet<D>, register: MmioRegister) -> u32
         ensures { result ≡ load_of (record { page = self.now; device = set.now.devices.con }) register }
     {
         match register {
-            Register::MagicValue => MAGIC,
-            Register::Version => VERSION,
-            Register::DeviceId => u32::from(Dev::Con.id()),
-            Register::VendorId => VENDOR,
-            Register::DeviceFeatures => set.offered(Dev::Con, self.device_features_select()),
-            Register::QueueNumMax => self.number_max(set),
-            Register::QueueReady => u32::from(self.is_selected_set(set)),
-            Register::InterruptStatus => self.interrupt_status(),
-            Register::Status => u32::from(set.status(Dev::Con)),
-            Register::ShmLenLow | Register::ShmLenHigh => NO_REGION,
-            Register::ConfigGeneration => set.generation(Dev::Con),
-            Register::DeviceFeaturesSel
-            | Register::DriverFeatures
-            | Register::DriverFeaturesSel
-            | Register::QueueSel
-            | Register::QueueNum
-            | Register::QueueNotify
-            | Register::InterruptAck
-            | Register::QueueDescLow
-            | Register::QueueDescHigh
-            | Register::QueueDriverLow
-            | Register::QueueDriverHigh
-            | Register::QueueDeviceLow
-            | Register::QueueDeviceHigh => 0,
+            MmioRegister::MagicValue => MAGIC,
+            MmioRegister::Version => VERSION,
+            MmioRegister::DeviceId => u32::from(Dev::Con.id()),
+            MmioRegister::VendorId => VENDOR,
+            MmioRegister::DeviceFeatures => set.offered(Dev::Con, self.device_features_select()),
+            MmioRegister::QueueNumMax => self.number_max(set),
+            MmioRegister::QueueReady => u32::from(self.is_selected_set(set)),
+            MmioRegister::InterruptStatus => self.interrupt_status(),
+            MmioRegister::Status => u32::from(set.status(Dev::Con)),
+            MmioRegister::ShmLenLow | MmioRegister::ShmLenHigh => NO_REGION,
+            MmioRegister::ConfigGeneration => set.generation(Dev::Con),
+            MmioRegister::DeviceFeaturesSel
+            | MmioRegister::DriverFeatures
+            | MmioRegister::DriverFeaturesSel
+            | MmioRegister::QueueSel
+            | MmioRegister::QueueNum
+            | MmioRegister::QueueNotify
+            | MmioRegister::InterruptAck
+            | MmioRegister::QueueDescLow
+            | MmioRegister::QueueDescHigh
+            | MmioRegister::QueueDriverLow
+            | MmioRegister::QueueDriverHigh
+            | MmioRegister::QueueDeviceLow
+            | MmioRegister::QueueDeviceHigh => 0,
         }
     }
 
@@ -94,7 +94,7 @@ impl Page {
         ensures { result ≡ number_max (selected (record { page = self.now; device = set.now.devices.con })) }
     {
         match queue_of(set, self.queue_select()) {
-            Some(_) => u32::from(MAX_QUEUE),
+            Some(_) => u32::from(GREATEST_QUEUE),
             None => 0,
         }
     }
@@ -145,37 +145,41 @@ impl Page {
     }
 
     /// Stores a word in a register; one that is only loaded ignores it.
-    pub fn store<D: Disk>(&mut self, set: &mut DeviceSet<D>, register: Register, value: u32)
+    pub fn store<D: Disk>(&mut self, set: &mut DeviceSet<D>, register: MmioRegister, value: u32)
         ensures stores { store_of register value (record { page = self.old; device = set.old.devices.con }) ≡ record { page = self.new; device = set.new.devices.con } }
         ensures rest { set.new ≡ record set.old { devices = record set.old.devices { con = set.new.devices.con } } }
     {
         let queue = self.registers();
         match register {
-            Register::DeviceFeaturesSel => self.select_device_features(value),
-            Register::DriverFeatures => set.accept(Dev::Con, self.driver_features_select(), value),
-            Register::DriverFeaturesSel => self.select_driver_features(value),
-            Register::QueueSel => self.select_queue(value),
-            Register::QueueNum => self.change(set, queue.with_num(value)),
-            Register::QueueReady => self.store_ready(set, value),
-            Register::QueueNotify => notify(set, value),
-            Register::InterruptAck => self.acknowledge(value),
-            Register::Status => self.store_status(set, (value & 0xff) as u8),
-            Register::QueueDescLow => self.change(set, queue.with_desc_low(value)),
-            Register::QueueDescHigh => self.change(set, queue.with_desc_high(value)),
-            Register::QueueDriverLow => self.change(set, queue.with_driver_low(value)),
-            Register::QueueDriverHigh => self.change(set, queue.with_driver_high(value)),
-            Register::QueueDeviceLow => self.change(set, queue.with_device_low(value)),
-            Register::QueueDeviceHigh => self.change(set, queue.with_device_high(value)),
-            Register::MagicValue
-            | Register::Version
-            | Register::DeviceId
-            | Register::VendorId
-            | Register::DeviceFeatures
-            | Register::QueueNumMax
-            | Register::InterruptStatus
-            | Register::ShmLenLow
-            | Register::ShmLenHigh
-            | Register::ConfigGeneration => {}
+            MmioRegister::DeviceFeaturesSel => self.select_device_features(value),
+            MmioRegister::DriverFeatures => set.accept(
+                Dev::Con,
+                self.driver_features_select(),
+                value,
+            ),
+            MmioRegister::DriverFeaturesSel => self.select_driver_features(value),
+            MmioRegister::QueueSel => self.select_queue(value),
+            MmioRegister::QueueNum => self.change(set, queue.with_num(value)),
+            MmioRegister::QueueReady => self.store_ready(set, value),
+            MmioRegister::QueueNotify => notify(set, value),
+            MmioRegister::InterruptAck => self.acknowledge(value),
+            MmioRegister::Status => self.store_status(set, (value & 0xff) as u8),
+            MmioRegister::QueueDescLow => self.change(set, queue.with_desc_low(value)),
+            MmioRegister::QueueDescHigh => self.change(set, queue.with_desc_high(value)),
+            MmioRegister::QueueDriverLow => self.change(set, queue.with_driver_low(value)),
+            MmioRegister::QueueDriverHigh => self.change(set, queue.with_driver_high(value)),
+            MmioRegister::QueueDeviceLow => self.change(set, queue.with_device_low(value)),
+            MmioRegister::QueueDeviceHigh => self.change(set, queue.with_device_high(value)),
+            MmioRegister::MagicValue
+            | MmioRegister::Version
+            | MmioRegister::DeviceId
+            | MmioRegister::VendorId
+            | MmioRegister::DeviceFeatures
+            | MmioRegister::QueueNumMax
+            | MmioRegister::InterruptStatus
+            | MmioRegister::ShmLenLow
+            | MmioRegister::ShmLenHigh
+            | MmioRegister::ConfigGeneration => {}
         }
     }
 }

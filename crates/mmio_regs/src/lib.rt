@@ -6,9 +6,7 @@
 mod bus;
 mod config;
 mod console_page;
-mod interrupts;
 mod page;
-mod register;
 #[cfg(test)]
 mod tests;
 

@@ -5,9 +5,9 @@ ghost use Rattle.std.specs.Option.{unwrap_or};
 ghost use Rattle.mmio_regs.specs.declared.page.QueueRegisters.{QueueRegisters};
 ghost use Rattle.mmio_regs.specs.Page.{new_page, new_queue_registers, with_interrupt, kept_bit, acknowledged, with_low, with_high};
 
-use crate::interrupts::InterruptBits;
 use bitflags::Flags;
 use std::marker::Model;
+use vt_layout::InterruptBits;
 
 /// The registers that set up a queue: how many descriptors it has, and where its three areas lie.
 #[derive(Clone, Copy, Debug, PartialEq, Eq)]

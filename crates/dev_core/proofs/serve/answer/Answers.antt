@@ -6,8 +6,8 @@ use Rattle.dev_console.proofs.ConsoleLaws.{readable_fits}
 use Rattle.dev_core.proofs.ServeLaws.{serves-spare}
 use Rattle.dev_core.proofs.serve.answer.Goals as goal
 
-pub serve_chain-len-requires-clause-room : goal.serve_chain-len-requires-clause-room
-serve_chain-len-requires-clause-room c =
+pub serve_chain-len-requires-clause-spare : goal.serve_chain-len-requires-clause-spare
+serve_chain-len-requires-clause-spare c =
     let few : length (readable c.args.mem.now.bytes c.args.chain.now.pieces.items) ≤ 8192 = readable_fits c.args.mem.now.bytes c.args.chain.now.pieces.items c.requires.chain.rules in
     λ _. omega arith
 
