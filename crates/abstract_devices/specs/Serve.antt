@@ -1,6 +1,6 @@
 use Rattle.std.specs.Prelude.{ℕ, ◌==◌, ◌&&◌, nat_lt, List, [], ◌∷◌, ◌++◌, length, Bool, true, false, Option, Some, None, if◌then◌else◌}
 use Rattle.vt_types.specs.declared.device.Dev.{Dev}
-use Rattle.vt_types.specs.declared.device.Dev.TheVariants.{Con}
+use Rattle.vt_types.specs.declared.device.Dev.TheVariants.{Blk, Net, Con}
 use Rattle.dev_status.specs.Status.{has_bits}
 use Rattle.vt_types.specs.Status.{DRIVER_OK}
 use Rattle.dev_console.specs.Console.{ConsoleAnswer, console_answer}
@@ -43,7 +43,8 @@ abbrev pub serve_console : World → ℕ → Option AbstractQueue → World
 serve_console w n None = w
 serve_console w n (Some q) = if has_bits w.con.status DRIVER_OK && q.kick && is_served w n then serve_front w n q q.available else w
 
--- the device serves one buffer of a queue; today's scripts serve the console alone
+-- the device serves one buffer of a queue; the block and the network device are not there yet
 abbrev pub serve : World → Dev → ℕ → World
+serve w Blk n = w
+serve w Net n = w
 serve w Con n = serve_console w n (queue w.con n)
-serve w _ n = w

@@ -1,10 +1,11 @@
-use Rattle.std.specs.Prelude.{ℕ, List, [], Bool, false, Option, Some, None, replicate, slice_get, slice_set}
-use Rattle.std.specs.Option.{option_flatten}
+use Rattle.std.specs.Prelude.{ℕ, ◌+◌, List, [], ◌++◌, map, sum, Bool, false, Option, Some, None, replicate, slice_get, slice_set}
+use Rattle.std.specs.Option.{option_flatten, option_map}
 use Rattle.vt_types.specs.declared.device.Dev.{Dev}
 use Rattle.vt_types.specs.declared.device.Dev.TheVariants.{Blk, Net, Con}
-use Rattle.vt_types.specs.Device.{queue_count}
+use Rattle.vt_types.specs.Device.{queue_count, START_COLS, START_ROWS}
 use Rattle.dev_status.specs.Features.{features_of}
 use Rattle.dev_status.specs.Status.{StatusState}
+use Rattle.state_table.specs.Known.{Known, KnownQueue}
 
 -- a buffer that the driver made available: its tag, the readable bytes, the bytes of its writable room, and its slots
 pub record Buffer : Type 0 where
@@ -50,13 +51,16 @@ pub record AbstractDisk : Type 0 where
   pub sectors : List (List ℕ)
   pub read_only : Bool
 
--- everything: the three devices, the disk, the frames that were sent, the console's waiting input and its bytes
+-- everything: the three devices, the disk, the frames that were sent, the console's size in characters, its waiting input and
+-- its bytes
 pub record World : Type 0 where
   pub blk : AbstractDevice
   pub net : AbstractDevice
   pub con : AbstractDevice
   pub disk : AbstractDisk
   pub sent : List (List ℕ)
+  pub cols : ℕ
+  pub rows : ℕ
   pub waiting : List ℕ
   pub console : List ℕ
 
@@ -87,6 +91,27 @@ queue d n = option_flatten (slice_get d.queues n)
 abbrev pub with_queue : AbstractDevice → ℕ → AbstractQueue → AbstractDevice
 with_queue d n q = record d { queues = slice_set d.queues n (Some q) }
 
+-- the tags of the buffers of a queue that were not reaped yet, and the slots that they take
+abbrev pub tags_of : AbstractQueue → List ℕ
+tags_of q = map (λ (b : Buffer). b.tag) q.available ++ map (λ (u : UsedBuffer). u.tag) q.used
+
+abbrev pub slots_in_use : AbstractQueue → ℕ
+slots_in_use q = sum (map (λ (b : Buffer). b.slots) q.available) + sum (map (λ (u : UsedBuffer). u.slots) q.used)
+
+-- what the state table reads of a device
+abbrev pub queue_known : AbstractQueue → KnownQueue
+queue_known q = record { size = q.size; tags = tags_of q; slots = slots_in_use q }
+
+abbrev pub known_of : AbstractDevice → Known
+known_of d =
+    record {
+      probed = d.probed;
+      reset_since = d.reset_since;
+      status = d.status;
+      accepted = d.accepted;
+      queues = map (option_map queue_known) d.queues;
+    }
+
 -- a device before it is probed
 abbrev pub new_device : Dev → AbstractDevice
 new_device dev =
@@ -103,4 +128,4 @@ new_device dev =
 -- the starting world, with this disk
 abbrev pub new_world : AbstractDisk → World
 new_world disk =
-    record { blk = new_device Blk; net = new_device Net; con = new_device Con; disk = disk; sent = []; waiting = []; console = [] }
+    record { blk = new_device Blk; net = new_device Net; con = new_device Con; disk = disk; sent = []; cols = START_COLS; rows = START_ROWS; waiting = []; console = [] }
