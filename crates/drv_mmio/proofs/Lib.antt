@@ -1,0 +1,3 @@
+pub mod AccessLaws
+pub mod QueueLaws
+pub mod Rounds
