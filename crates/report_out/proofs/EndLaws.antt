@@ -76,7 +76,7 @@ pub sector_sent : (n : ℕ) (d d2 : DiskView) (k k2 : SinkView) (read : Result U
 sector_sent n d d2 k k2 read bytes held r within whole called same reads line sends = record {
   cause = sends.cause;
   disk_later = called.later;
-  disk = record { image = same; count = called.count; locked = called.locked };
+  disk = record { image = same; count = called.count; read_only = called.read_only };
   outcomes = is_ok read ∷ [];
   tells = outcomes_one d.outcomes d2.outcomes (is_ok read) called.outcomes;
   calls = all_made r 1;

@@ -20,7 +20,7 @@ stopped Write = inr (inl refl)
 stopped Memory = inr (inr refl)
 
 -- what was written, by how the input was run
-written : (result : Result ℕ Stop) (text whole : List ℕ) → AllOrPart result text whole → Written (run_status result) text whole
+pub written : (result : Result ℕ Stop) (text whole : List ℕ) → AllOrPart result text whole → Written (run_status result) text whole
 written (Ok status) text whole all = (prefix_equal text whole all, inr all)
 written (Err stop) text whole part = (part, inl (stopped stop))
 
@@ -97,9 +97,9 @@ answers report ends s s2 k k2 d d2 result is_report r = record {
   calls = r.calls;
   stops = λ input sectors read_only readings is some. written result r.text (report input sectors read_only readings).text (r.stops input sectors read_only readings is some);
   reports = λ input image readings is shows are. (
-    written result r.text (report input image d.locked readings).text (r.reports input image readings is shows are),
-    status_is result (ends input) (report input image d.locked readings).status (is_report.status input image d.locked readings) (r.answers input is),
-    r.disk.image ∙ shows ∙ ap (λ (z : List (List ℕ)). Some z) (sym (is_report.image input image d.locked readings)),
+    written result r.text (report input image d.read_only readings).text (r.reports input image readings is shows are),
+    status_is result (ends input) (report input image d.read_only readings).status (is_report.status input image d.read_only readings) (r.answers input is),
+    r.disk.image ∙ shows ∙ ap (λ (z : List (List ℕ)). Some z) (sym (is_report.image input image d.read_only readings)),
   );
   complete = λ input is whole calm still. complete_of result s s2 k k2 (ends input) r.cause (r.answers input is) whole calm still;
 }

@@ -1,5 +1,6 @@
 use Rattle.std.proofs.Common.{◌≡◌, ℕ, ◌+◌, ◌^◌, ◌≤◌, List, [], ◌++◌, length, Some, Bool, refl, sym, ◌∙◌, ap, inl, arith}
 use Rattle.std.specs.Prelude.{Ok, Err}
+use Rattle.vt_types.specs.Limits.{LONGEST_SCRIPT}
 use Rattle.vt_outside.specs.Disk.{DiskView}
 use Rattle.vt_outside.specs.Sink.{SinkView, Adds}
 use Rattle.vt_outside.specs.Source.{SourceView}
@@ -56,7 +57,7 @@ send_cause s s2 k k2 Memory calm h = (calm, h)
 
 -- a run stopped before the disk was asked: what it wrote is a front of its report
 pub stopped_unasked : (report : Reporting) (ends : List ℕ → ℕ) (s s2 : SourceView) (k k2 : SinkView) (d : DiskView) (stop : Stop) (text : List ℕ)
-    → TakesAtMost (2 ^ 26 + 1) s.left s2.left → RunCause (Err stop) s s2 k k2 → Adds k.written k2.written text
+    → TakesAtMost (LONGEST_SCRIPT + 1) s.left s2.left → RunCause (Err stop) s s2 k k2 → Adds k.written k2.written text
     → ((input : List ℕ) (sectors : List (List ℕ)) (read_only : Bool) (readings : List Bool) → s.left ≡ Some input → IsPrefixOf text (report input sectors read_only readings).text)
     → RunsInput report ends s s2 k k2 d d (Err stop)
 stopped_unasked report ends s s2 k k2 d stop text takes cause adds front = record {
@@ -71,18 +72,18 @@ stopped_unasked report ends s s2 k k2 d stop text takes cause adds front = recor
   answers = λ input is. tt;
   reads = λ input is. tt;
   stops = λ input sectors read_only readings is some. front input sectors read_only readings is;
-  reports = λ input image readings is shows are. front input image d.locked readings is;
+  reports = λ input image readings is shows are. front input image d.read_only readings is;
 }
 
 -- it stopped before it wrote anything
 pub stopped_early : (report : Reporting) (ends : List ℕ → ℕ) (s s2 : SourceView) (k : SinkView) (d : DiskView) (stop : Stop)
-    → TakesAtMost (2 ^ 26 + 1) s.left s2.left → RunCause (Err stop) s s2 k k → RunsInput report ends s s2 k k d d (Err stop)
+    → TakesAtMost (LONGEST_SCRIPT + 1) s.left s2.left → RunCause (Err stop) s s2 k k → RunsInput report ends s s2 k k d d (Err stop)
 stopped_early report ends s s2 k d stop takes cause =
     stopped_unasked report ends s s2 k k d stop [] takes cause (adds_none k.written) (λ input sectors read_only readings is. prefix_none _)
 
 -- a run ended without the end parts: with another status than 0, and its report was written
 pub ended_unasked : (report : Reporting) (ends : List ℕ → ℕ) (s s2 : SourceView) (k k2 : SinkView) (d : DiskView) (status : ℕ) (text : List ℕ)
-    → (status ≡ 0 → ⊥) → TakesAtMost (2 ^ 26 + 1) s.left s2.left → RunCause (Ok status) s s2 k k2 → Adds k.written k2.written text
+    → (status ≡ 0 → ⊥) → TakesAtMost (LONGEST_SCRIPT + 1) s.left s2.left → RunCause (Ok status) s s2 k k2 → Adds k.written k2.written text
     → ((input : List ℕ) → s.left ≡ Some input → status ≡ ends input)
     → ((input : List ℕ) (sectors : List (List ℕ)) (read_only : Bool) (readings : List Bool) → s.left ≡ Some input → text ≡ (report input sectors read_only readings).text)
     → RunsInput report ends s s2 k k2 d d (Ok status)
@@ -98,12 +99,12 @@ ended_unasked report ends s s2 k k2 d status text other takes cause adds ended w
   answers = ended;
   reads = λ input is zero. absurd (other zero);
   stops = λ input sectors read_only readings is some. whole input sectors read_only readings is;
-  reports = λ input image readings is shows are. whole input image d.locked readings is;
+  reports = λ input image readings is shows are. whole input image d.read_only readings is;
 }
 
 -- a run went on to the end of its input, and wrote its report up to a last text, which hangs on the disk
 pub record ToEnd (report : Reporting) (ends : List ℕ → ℕ) (s s2 : SourceView) (k k2 : SinkView) (last : List (List ℕ) → List Bool → List ℕ) : Type 0 where
-  pub takes : TakesAtMost (2 ^ 26 + 1) s.left s2.left
+  pub takes : TakesAtMost (LONGEST_SCRIPT + 1) s.left s2.left
   pub calm : s2.faults ≡ s.faults
   pub still : k2.faults ≡ k.faults
   pub text : List ℕ
@@ -129,7 +130,7 @@ ended_whole report ends s s2 k k1 k2 d d2 last h sent = record {
   reads = λ input is zero. h.reads input is;
   stops = λ input sectors read_only readings is some. absurd (some (h.ended input is));
   reports = λ input image readings is shows are.
-      ap (λ (z : List ℕ). h.text ++ z) (sent.part image readings [] shows (are_taken d d2 readings are)) ∙ h.whole input image d.locked readings is;
+      ap (λ (z : List ℕ). h.text ++ z) (sent.part image readings [] shows (are_taken d d2 readings are)) ∙ h.whole input image d.read_only readings is;
 }
 
 -- or a part of it
@@ -148,6 +149,6 @@ stopped_in_end report ends s s2 k k1 k2 d d2 last stop h sent = record {
   reads = λ input is. tt;
   stops = λ input sectors read_only readings is some. absurd (some (h.ended input is));
   reports = λ input image readings is shows are.
-      rw (← h.whole input image d.locked readings is)
+      rw (← h.whole input image d.read_only readings is)
       (prefix_behind h.text sent.sent (last image readings) (sent.part image readings [] shows (are_taken d d2 readings are)));
 }

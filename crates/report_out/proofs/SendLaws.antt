@@ -60,10 +60,10 @@ sends_as k k1 x y r e h = rw e at h
 
 -- a disk that was not asked tells what it told
 pub same_none : (d : DiskView) → SameDisk d d
-same_none d = record { image = refl; count = refl; locked = refl }
+same_none d = record { image = refl; count = refl; read_only = refl }
 
 pub same_then : (d d1 d2 : DiskView) → SameDisk d d1 → SameDisk d1 d2 → SameDisk d d2
-same_then d d1 d2 h g = record { image = g.image ∙ h.image; count = g.count ∙ h.count; locked = g.locked ∙ h.locked }
+same_then d d1 d2 h g = record { image = g.image ∙ h.image; count = g.count ∙ h.count; read_only = g.read_only ∙ h.read_only }
 
 -- a text that doesn't hang on the disk
 pub disk_unasked : (text : List ℕ) (d : DiskView) (k k2 : SinkView) (r : Result Unit Stop) → Sends k k2 text r → SendsDisk (λ image outcomes. text) 0 d d k k2 r

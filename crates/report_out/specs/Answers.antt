@@ -1,4 +1,5 @@
-use Rattle.std.specs.Prelude.{◌≡◌, ℕ, ◌+◌, ◌≤◌, ◌⊎◌, ◌^◌, List, [], drop, length, Bool, Option, Some}
+use Rattle.std.specs.Prelude.{◌≡◌, ℕ, ◌+◌, ◌≤◌, ◌⊎◌, List, [], drop, length, Bool, Option, Some}
+use Rattle.vt_types.specs.Limits.{LONGEST_SCRIPT}
 use Rattle.vt_outside.specs.Faults.{Rose}
 use Rattle.vt_outside.specs.Source.{SourceView}
 use Rattle.vt_outside.specs.Sink.{SinkView}
@@ -26,7 +27,7 @@ Reporting = List ℕ → List (List ℕ) → Bool → List Bool → Report
 -- what a call answers that reports on an input, where `ends` says of an input how it ends: with 0, 3 or 7
 pub record AnswersInput (report : Reporting) (ends : List ℕ → ℕ) (s s2 : SourceView) (k k2 : SinkView) (d d2 : DiskView) (status : ℕ) (text : List ℕ) : Type 0 where
   -- however long the input, one byte past the bound is taken at most
-  pub takes : TakesAtMost (2 ^ 26 + 1) s.left s2.left
+  pub takes : TakesAtMost (LONGEST_SCRIPT + 1) s.left s2.left
   -- 0, 3 or 7 exactly as the input ends
   pub answers : (input : List ℕ) → s.left ≡ Some input → Stopped status ⊎ (status ≡ ends input)
   -- with 0 the input was read to its end
@@ -42,7 +43,7 @@ pub record AnswersInput (report : Reporting) (ends : List ℕ → ℕ) (s s2 : S
   -- what is written is the report, whichever sectors could be read; the status is the report's, and so is the image of the
   -- disk that comes back
   pub reports : (input : List ℕ) (image : List (List ℕ)) (readings : List Bool) → s.left ≡ Some input → d.image ≡ Some image → AreOutcomes d d2 readings
-      → let r = report input image d.locked readings in
+      → let r = report input image d.read_only readings in
       Written status text r.text × (Stopped status ⊎ (status ≡ r.status)) × (d2.image ≡ Some r.image)
   -- a whole input is answered 0, or 6, where neither the source's nor the sink's count of faults rose
   pub complete : (input : List ℕ) → s.left ≡ Some input → ends input ≡ 0 → (Rose s.faults s2.faults → ⊥) → (Rose k.faults k2.faults → ⊥)

@@ -6,7 +6,7 @@ use Rattle.vt_outside.specs.Faults.{Rose}
 pub record SameDisk (old new : DiskView) : Type 0 where
   pub image : new.image ≡ old.image
   pub count : new.count ≡ old.count
-  pub locked : new.locked ≡ old.locked
+  pub read_only : new.read_only ≡ old.read_only
 
 -- where the disk tells its image, it is one of as many sectors as the disk has
 pub record IsWhole (d : DiskView) : Type 0 where

@@ -1,4 +1,5 @@
-use Rattle.std.specs.Prelude.{◌≡◌, ℕ, ◌+◌, ◌^◌, ◌⊎◌, List, [], length, Bool, Some, Result, Ok, Err, IfOk}
+use Rattle.std.specs.Prelude.{◌≡◌, ℕ, ◌+◌, ◌⊎◌, List, [], length, Bool, Some, Result, Ok, Err, IfOk}
+use Rattle.vt_types.specs.Limits.{LONGEST_SCRIPT}
 use Rattle.vt_outside.specs.Disk.{DiskView}
 use Rattle.vt_outside.specs.Faults.{Rose}
 use Rattle.vt_outside.specs.Sink.{SinkView, Adds}
@@ -25,7 +26,7 @@ EndsAs (Err stop) end = Unit {0}
 -- an input was run from a source to a sink, beside a disk: `ReportsOn` as the code has it, with the stop in place of its
 -- status
 pub record RunsInput (report : Reporting) (ends : List ℕ → ℕ) (s s2 : SourceView) (k k2 : SinkView) (d d2 : DiskView) (result : Result ℕ Stop) : Type 0 where
-  pub takes : TakesAtMost (2 ^ 26 + 1) s.left s2.left
+  pub takes : TakesAtMost (LONGEST_SCRIPT + 1) s.left s2.left
   pub cause : RunCause result s s2 k k2
   pub disk : SameDisk d d2
   pub outcomes : List Bool
@@ -38,4 +39,4 @@ pub record RunsInput (report : Reporting) (ends : List ℕ → ℕ) (s s2 : Sour
   pub stops : (input : List ℕ) (sectors : List (List ℕ)) (read_only : Bool) (readings : List Bool) → s.left ≡ Some input → (ends input ≡ 0 → ⊥)
       → AllOrPart result text (report input sectors read_only readings).text
   pub reports : (input : List ℕ) (image : List (List ℕ)) (readings : List Bool) → s.left ≡ Some input → d.image ≡ Some image → AreOutcomes d d2 readings
-      → AllOrPart result text (report input image d.locked readings).text
+      → AllOrPart result text (report input image d.read_only readings).text

@@ -12,7 +12,7 @@ ghost use Rattle.report_out.specs.Output.{Sends, SendsDisk};
 ghost use Rattle.report_out.specs.Pieces.{console_text, line_of_sector, lines_below};
 
 use crate::stop::Stop;
-use report_text::{LINE_ROOM, Text};
+use report_text::{LINE_SPARE, Text};
 use vt_outside::{Disk, Failed, Sink};
 
 /// How many bytes of the console are sent at once.
@@ -36,9 +36,9 @@ pub fn send<K: Sink>(sink: &mut K, bytes: &[u8]) -> Result<(), Stop>
 fn send_piece<K: Sink>(piece: &[u8], text: &mut Text, sink: &mut K) -> Result<(), Stop>
     requires some { 0 < length piece.now }
     requires few { length piece.now ≤ PIECE }
-    requires room { LINE_ROOM ≤ text.old.room + length text.old.bytes }
+    requires spare { LINE_SPARE ≤ text.old.spare + length text.old.bytes }
     ensures sends { Sends (K.view sink.old) (K.view sink.new) (encode_lower piece.now) result }
-    ensures room { LINE_ROOM ≤ text.new.room + length text.new.bytes }
+    ensures spare { LINE_SPARE ≤ text.new.spare + length text.new.bytes }
 {
     text.clear();
     text.hex(piece);
@@ -47,9 +47,9 @@ fn send_piece<K: Sink>(piece: &[u8], text: &mut Text, sink: &mut K) -> Result<()
 
 /// Sends bytes in hexadecimal, a piece at a time.
 fn send_hex<K: Sink>(bytes: &[u8], text: &mut Text, sink: &mut K) -> Result<(), Stop>
-    requires { LINE_ROOM ≤ text.old.room + length text.old.bytes }
+    requires { LINE_SPARE ≤ text.old.spare + length text.old.bytes }
     ensures sends { Sends (K.view sink.old) (K.view sink.new) (hex bytes.now) result }
-    ensures room { LINE_ROOM ≤ text.new.room + length text.new.bytes }
+    ensures spare { LINE_SPARE ≤ text.new.spare + length text.new.bytes }
 {
     if bytes.is_empty() {
         return send(sink, b"-");
@@ -66,11 +66,11 @@ fn send_hex<K: Sink>(bytes: &[u8], text: &mut Text, sink: &mut K) -> Result<(), 
 }
 
 /// Sends that no frame was sent, and the bytes of the console. `text` is a workspace: what it held is gone, and with the
-/// room that this took it has room for a line.
+/// bytes that this took it has spare ones for a line.
 pub fn send_console<K: Sink>(console: &[u8], text: &mut Text, sink: &mut K) -> Result<(), Stop>
-    requires { LINE_ROOM ≤ text.old.room + length text.old.bytes }
+    requires { LINE_SPARE ≤ text.old.spare + length text.old.bytes }
     ensures sends { Sends (K.view sink.old) (K.view sink.new) (console_text console.now) result }
-    ensures room { LINE_ROOM ≤ text.new.room + length text.new.bytes }
+    ensures spare { LINE_SPARE ≤ text.new.spare + length text.new.bytes }
 {
     match send(sink, b"frames 0\nconsole ") {
         Ok(()) => {}
@@ -85,9 +85,9 @@ pub fn send_console<K: Sink>(console: &[u8], text: &mut Text, sink: &mut K) -> R
 
 /// Sends how many sectors the disk has.
 fn send_count<K: Sink>(count: u64, text: &mut Text, sink: &mut K) -> Result<(), Stop>
-    requires { LINE_ROOM ≤ text.old.room + length text.old.bytes }
+    requires { LINE_SPARE ≤ text.old.spare + length text.old.bytes }
     ensures sends { Sends (K.view sink.old) (K.view sink.new) (disk_line count) result }
-    ensures room { LINE_ROOM ≤ text.new.room + length text.new.bytes }
+    ensures spare { LINE_SPARE ≤ text.new.spare + length text.new.bytes }
 {
     text.clear();
     text.disk(count);
@@ -96,9 +96,9 @@ fn send_count<K: Sink>(count: u64, text: &mut Text, sink: &mut K) -> Result<(), 
 
 /// Makes the line of a sector, which was read or not.
 fn sector_line(n: u64, read: Result<(), Failed>, bytes: &[u8; 512], text: &mut Text)
-    requires { LINE_ROOM ≤ text.old.room + length text.old.bytes }
+    requires { LINE_SPARE ≤ text.old.spare + length text.old.bytes }
     ensures text { text.new.bytes ≡ reading_text n bytes.now (is_ok read) }
-    ensures room { LINE_ROOM ≤ text.new.room + length text.new.bytes }
+    ensures spare { LINE_SPARE ≤ text.new.spare + length text.new.bytes }
 {
     text.clear();
     match read {
@@ -116,9 +116,9 @@ fn send_sector<K: Sink, D: Disk>(
 ) -> Result<(), Stop>
     requires there { n < (D.view disk.old).count }
     requires whole { IsWhole (D.view disk.old) }
-    requires room { LINE_ROOM ≤ text.old.room + length text.old.bytes }
+    requires spare { LINE_SPARE ≤ text.old.spare + length text.old.bytes }
     ensures sends { SendsDisk (line_of_sector n) 1 (D.view disk.old) (D.view disk.new) (K.view sink.old) (K.view sink.new) result }
-    ensures room { LINE_ROOM ≤ text.new.room + length text.new.bytes }
+    ensures spare { LINE_SPARE ≤ text.new.spare + length text.new.bytes }
 {
     let mut bytes = [0u8; 512];
     let read = disk.read_sector(n, &mut bytes);
@@ -135,8 +135,8 @@ fn send_sectors<K: Sink, D: Disk>(
 ) -> Result<(), Stop>
     requires all { count ≡ (D.view disk.old).count }
     requires whole { IsWhole (D.view disk.old) }
-    requires room { LINE_ROOM ≤ text.old.room + length text.old.bytes }
-    ensures room { LINE_ROOM ≤ text.new.room + length text.new.bytes }
+    requires spare { LINE_SPARE ≤ text.old.spare + length text.old.bytes }
+    ensures spare { LINE_SPARE ≤ text.new.spare + length text.new.bytes }
     ensures sends { SendsDisk (lines_below count) count (D.view disk.old) (D.view disk.new) (K.view sink.old) (K.view sink.new) result }
 {
     'sectors: for n in 0..count {
@@ -149,11 +149,11 @@ fn send_sectors<K: Sink, D: Disk>(
 }
 
 /// Sends how many sectors the disk has, the line of each that isn't all zeros, and the end. A sector that can't be read
-/// has a line that says so. `text` is a workspace: what it held is gone, and with the room that this took it has room for
-/// a line.
+/// has a line that says so. `text` is a workspace: what it held is gone, and with the bytes that this took it has spare
+/// ones for a line.
 pub fn send_disk<K: Sink, D: Disk>(text: &mut Text, sink: &mut K, disk: &mut D) -> Result<(), Stop>
-    requires { LINE_ROOM ≤ text.old.room + length text.old.bytes }
-    ensures room { LINE_ROOM ≤ text.new.room + length text.new.bytes }
+    requires { LINE_SPARE ≤ text.old.spare + length text.old.bytes }
+    ensures spare { LINE_SPARE ≤ text.new.spare + length text.new.bytes }
     ensures sends { SendsDisk disk_text (D.view disk.old).count (D.view disk.old) (D.view disk.new) (K.view sink.old) (K.view sink.new) result }
 {
     let count = disk.sectors();

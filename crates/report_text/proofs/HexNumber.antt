@@ -185,6 +185,21 @@ encode-digits m k f n e some few is h =
     ∙ ap (λ ds. replicate (k + 0 - length ds) zero_digit ++ ds) (sym (digits-onto f n is))
     ∙ ap (λ j. replicate j zero_digit ++ digits 16 false n) count
 
+-- a number of 64 bits has at most 16 digits
+length-digits-le : (n : ℕ) → n < 2 ^ 64 → length (digits 16 false n) ≤ 16
+length-digits-le n h =
+    let ds = digits 16 false n in
+    let zeros : encode_lower (bytes_high_first 8 n) ≡ replicate (16 - length ds) zero_digit ++ ds = encode-digits 8 16 64 n refl (omega arith) (omega arith) refl (omega arith) in
+    let both : 16 ≡ 16 - length ds + length ds = sym (length-encode_with lower_digits (bytes_high_first 8 n)) ∙ ap length zeros ∙ simp (length-append, length-replicate) in
+    omega arith
+
+-- also with the zeros before them
+pub length-hex_number-le : (least n : ℕ) → least ≤ 16 → n < 2 ^ 64 → length (hex_number least n) ≤ 16
+length-hex_number-le least n few h =
+    let ds = digits 16 false n in
+    let all : length (hex_number least n) ≡ least - length ds + length ds = simp (length-append, length-replicate) in
+    omega (arith, length-digits-le n h)
+
 -- the digits of 8 bytes without the zeros before them
 pub hex_number-trimmed : (least n : ℕ) (all : List ℕ) → 0 < least → least ≤ 16 → n < 2 ^ 64 → all ≡ low_digits 8 n
     → let zeros = prefix_len (λ d. d == zero_digit) (take (16 - least) all) in take (16 - zeros) (drop zeros all) ≡ hex_number least n
@@ -193,7 +208,7 @@ hex_number-trimmed least n all some few h e =
     let zeros = prefix_len (λ d. d == zero_digit) (take (16 - least) all) in
     let is : all ≡ replicate (16 - length ds) zero_digit ++ ds = e ∙ encode-digits 8 16 64 n refl (omega arith) (omega arith) refl (omega arith) in
     let sixteen : length all ≡ 16 = ap length e ∙ length-encode_with lower_digits (bytes_high_first 8 n) in
-    let both : 16 ≡ 16 - length ds + length ds = sym sixteen ∙ ap length is ∙ simp (length-append, length-replicate) in
+    let fit : length ds ≤ 16 = length-digits-le n h in
     let rest : drop zeros all ≡ hex_number least n =
     rw is (trimmed (16 - length ds) (16 - least) least ds some (omega arith) (first_of_digits 64 n refl (omega arith))) in
     let whole : take (16 - zeros) (drop zeros all) ≡ drop zeros all = grind (arith, common_steps) in

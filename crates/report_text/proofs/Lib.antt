@@ -1,2 +1,3 @@
 pub mod HexNumber
+pub mod DigitCounts
 pub mod TextLaws

@@ -8,7 +8,7 @@ use Rattle.report_text.specs.Words.{numbers, word}
 pub added_then : (a b c : TextView) (x y : List ℕ) → Added a b x → Added b c y → Added a c (x ++ y)
 added_then a b c x y h k = record {
   bytes = k.bytes ∙ ap (λ z. z ++ y) h.bytes ∙ append_assoc a.bytes x y;
-  room = let l = h.room in let m = k.room in omega (arith, length-append x y);
+  spare = let l = h.spare in let m = k.spare in omega (arith, length-append x y);
 }
 
 -- numbers, and then others

@@ -1,10 +1,11 @@
-use Rattle.std.specs.Prelude.{ℕ, List, ◌++◌, codes}
+use Rattle.std.specs.Prelude.{ℕ, Bool, true, false, List, ◌++◌, codes}
 use Rattle.std.specs.Fmt.{decimal}
 use Rattle.vt_types.specs.declared.access.Answer.{Answer}
 use Rattle.vt_types.specs.declared.access.Answer.TheVariants as answer
 use Rattle.vt_types.specs.declared.access.Turn.{Turn}
 use Rattle.vt_types.specs.declared.access.Turn.TheVariants as turn
 use Rattle.vt_types.specs.Access.{AccessValue, Load, Store, Put, Get, Zero, Swap, CfgLoad, CfgStore, Ssch, Tsch, Stsch, Msch, Csch, TurnOf, Diag}
+use Rattle.report_text.specs.Text.{LINE_SPARE, SHORT_LINE}
 use Rattle.report_text.specs.Words.{hex, hex_number, low_digits, word}
 
 -- an address or the id of a subchannel: 8 digits, or as many as it needs
@@ -75,6 +76,42 @@ answer_text a answer.NoSuch bytes = codes "none"
 -- the line of an access in a trace
 abbrev pub access_line : AccessValue → Answer → List ℕ → List ℕ
 access_line a answer bytes = codes ". " ++ access_text a ++ codes " = " ++ answer_text a answer bytes ++ codes "\n"
+
+-- bytes come with a get alone
+abbrev pub brings_bytes : AccessValue → Bool
+brings_bytes (Load addr width) = false
+brings_bytes (Store addr width value) = false
+brings_bytes (Put addr bytes) = false
+brings_bytes (Get addr count) = true
+brings_bytes (Zero addr count) = false
+brings_bytes (Swap addr value) = false
+brings_bytes (CfgLoad func off width) = false
+brings_bytes (CfgStore func off width value) = false
+brings_bytes (Ssch id addr) = false
+brings_bytes (Tsch id addr) = false
+brings_bytes (Stsch id addr) = false
+brings_bytes (Msch id addr) = false
+brings_bytes (Csch id) = false
+brings_bytes (TurnOf id) = false
+brings_bytes (Diag func id value cookie) = false
+
+-- no line of an access is longer in a trace: a put and a get alone have bytes
+abbrev pub longest_access_line : AccessValue → ℕ
+longest_access_line (Load addr width) = SHORT_LINE
+longest_access_line (Store addr width value) = SHORT_LINE
+longest_access_line (Put addr bytes) = LINE_SPARE
+longest_access_line (Get addr count) = LINE_SPARE
+longest_access_line (Zero addr count) = SHORT_LINE
+longest_access_line (Swap addr value) = SHORT_LINE
+longest_access_line (CfgLoad func off width) = SHORT_LINE
+longest_access_line (CfgStore func off width value) = SHORT_LINE
+longest_access_line (Ssch id addr) = SHORT_LINE
+longest_access_line (Tsch id addr) = SHORT_LINE
+longest_access_line (Stsch id addr) = SHORT_LINE
+longest_access_line (Msch id addr) = SHORT_LINE
+longest_access_line (Csch id) = SHORT_LINE
+longest_access_line (TurnOf id) = SHORT_LINE
+longest_access_line (Diag func id value cookie) = SHORT_LINE
 
 -- the line of an access in the report of a raw script: the number of the script's line, and the answer
 abbrev pub raw_line : ℕ → AccessValue → Answer → List ℕ → List ℕ

@@ -2,29 +2,30 @@
 
 ghost use Rattle.std.specs.Prelude.{◌≡◌, ◌+◌, ◌≤◌, ◌++◌, length};
 ghost use Rattle.std.specs.Fmt.{decimal};
-ghost use Rattle.vt_types.specs.Access.{CfgStore, Diag, IsWithinLimits, LONGEST_ACCESS, Put, Store, Swap, access_value};
+ghost use Rattle.vt_types.specs.Access.{CfgStore, Diag, IsWithinLimits, Put, Store, Swap, access_value};
+ghost use Rattle.vt_types.specs.Limits.{LONGEST_BUFFER};
 ghost use Rattle.vt_types.specs.Program.{got};
 ghost use Rattle.report_text.specs.Access.{access_line, access_text, address, answer_text, answer_width, offset, raw_line, turn_text};
 ghost use Rattle.report_text.specs.Text.{Added};
 ghost use Rattle.report_text.specs.Words.{word};
 
-use crate::text::{LINE_ROOM, SHORT_ROOM, Text};
+use crate::text::{LINE_SPARE, SHORT_SPARE, Text};
 use vt_types::{Access, Answer, Room, Turn};
 
-/// Room that is enough for an access, in bytes.
-const ACCESS_ROOM: u32 = 16_512;
+/// Spare bytes that are enough for an access.
+const ACCESS_SPARE: u32 = 16_512;
 
-/// Room that is enough for an access without bytes, in bytes.
-const WORDS_ROOM: u32 = 128;
+/// Spare bytes that are enough for an access without bytes.
+const WORDS_SPARE: u32 = 128;
 
-/// Room that is enough for a name and three words, in bytes.
-const CONFIG_ROOM: u32 = 96;
+/// Spare bytes that are enough for a name and three words.
+const CONFIG_SPARE: u32 = 96;
 
-/// Room that is enough for an answer, in bytes.
-const ANSWER_ROOM: u32 = 16_448;
+/// Spare bytes that are enough for an answer.
+pub(crate) const ANSWER_SPARE: u32 = 16_448;
 
 /// How many bytes the number has that answers an access: those of a load's width, else 8.
-fn answer_width(a: &Access<'_>) -> u8
+pub(crate) fn answer_width(a: &Access<'_>) -> u8
     requires { IsWithinLimits (access_value a.now) }
     ensures value { result ≡ answer_width (access_value a.now) }
     ensures few { result ≤ 8 }
@@ -48,7 +49,7 @@ fn answer_width(a: &Access<'_>) -> u8
 }
 
 /// How a turn of a channel program ended.
-fn turn_name(turn: Turn) -> &'static str
+pub(crate) fn turn_name(turn: Turn) -> &'static str
     ensures name { result.now ≡ turn_text turn }
     ensures short { length result.now ≤ 16 }
 {
@@ -66,9 +67,9 @@ impl Text {
     /// Adds the line of an access with its answer, as a trace has it. The bytes of a get are in the room.
     pub fn access(&mut self, a: &Access<'_>, answer: &Answer, room: &Room)
         requires limits { IsWithinLimits (access_value a.now) }
-        requires room { LINE_ROOM ≤ self.old.room }
+        requires spare { LINE_SPARE ≤ self.old.spare }
         ensures added { Added self.old self.new (access_line (access_value a.now) answer.now (got answer.now room.now.items)) }
-        ensures room { self.old.room ≤ self.new.room + LINE_ROOM }
+        ensures spare { self.old.spare ≤ self.new.spare + LINE_SPARE }
     {
         self.text(". ");
         self.access_text(a);
@@ -81,9 +82,9 @@ impl Text {
     /// bytes of a get are in the room.
     pub fn raw(&mut self, line: u32, a: &Access<'_>, answer: &Answer, room: &Room)
         requires limits { IsWithinLimits (access_value a.now) }
-        requires room { LINE_ROOM ≤ self.old.room }
+        requires spare { LINE_SPARE ≤ self.old.spare }
         ensures added { Added self.old self.new (raw_line line (access_value a.now) answer.now (got answer.now room.now.items)) }
-        ensures room { self.old.room ≤ self.new.room + LINE_ROOM }
+        ensures spare { self.old.spare ≤ self.new.spare + LINE_SPARE }
     {
         self.number(line as u64);
         self.text(" ");
@@ -94,9 +95,9 @@ impl Text {
     /// Adds an access.
     fn access_text(&mut self, a: &Access<'_>)
         requires limits { IsWithinLimits (access_value a.now) }
-        requires room { ACCESS_ROOM ≤ self.old.room }
+        requires spare { ACCESS_SPARE ≤ self.old.spare }
         ensures added { Added self.old self.new (access_text (access_value a.now)) }
-        ensures room { self.old.room ≤ self.new.room + ACCESS_ROOM }
+        ensures spare { self.old.spare ≤ self.new.spare + ACCESS_SPARE }
     {
         match *a {
             Access::Load { addr, width } => self.counted("load", addr, width as u64),
@@ -130,9 +131,9 @@ impl Text {
     /// Adds an access of a name, an address, and a width or a count.
     fn counted(&mut self, name: &str, addr: u64, n: u64)
         requires short { length name.now ≤ 8 }
-        requires room { SHORT_ROOM ≤ self.old.room }
+        requires spare { SHORT_SPARE ≤ self.old.spare }
         ensures added { Added self.old self.new (name.now ++ word (address addr) ++ word (decimal n)) }
-        ensures room { self.old.room ≤ self.new.room + SHORT_ROOM }
+        ensures spare { self.old.spare ≤ self.new.spare + SHORT_SPARE }
     {
         self.named_address(name, addr);
         self.number_word(n);
@@ -141,20 +142,20 @@ impl Text {
     /// Adds a store of a register: the value in the digits of its width, at most 8 bytes.
     fn store(&mut self, addr: u64, width: u8, value: u32)
         requires width { width ≤ 8 }
-        requires room { WORDS_ROOM ≤ self.old.room }
+        requires spare { WORDS_SPARE ≤ self.old.spare }
         ensures added { Added self.old self.new (access_text (Store addr width value)) }
-        ensures room { self.old.room ≤ self.new.room + WORDS_ROOM }
+        ensures spare { self.old.spare ≤ self.new.spare + WORDS_SPARE }
     {
         self.counted("store", addr, width as u64);
         self.low_digits_word(width, value as u64);
     }
 
-    /// Adds a put: at most `LONGEST_ACCESS` bytes.
+    /// Adds a put: at most `LONGEST_BUFFER` bytes.
     fn put(&mut self, addr: u64, bytes: &[u8])
-        requires few { length bytes.now ≤ LONGEST_ACCESS }
-        requires room { ACCESS_ROOM ≤ self.old.room }
+        requires few { length bytes.now ≤ LONGEST_BUFFER }
+        requires spare { ACCESS_SPARE ≤ self.old.spare }
         ensures added { Added self.old self.new (access_text (Put addr bytes.now)) }
-        ensures room { self.old.room ≤ self.new.room + ACCESS_ROOM }
+        ensures spare { self.old.spare ≤ self.new.spare + ACCESS_SPARE }
     {
         self.named_address("put", addr);
         self.hex_word(bytes);
@@ -162,9 +163,9 @@ impl Text {
 
     /// Adds a swap.
     fn swap(&mut self, addr: u64, value: u64)
-        requires { WORDS_ROOM ≤ self.old.room }
+        requires { WORDS_SPARE ≤ self.old.spare }
         ensures added { Added self.old self.new (access_text (Swap addr value)) }
-        ensures room { self.old.room ≤ self.new.room + WORDS_ROOM }
+        ensures spare { self.old.spare ≤ self.new.spare + WORDS_SPARE }
     {
         self.named_address("swap", addr);
         self.low_digits_word(8, value);
@@ -173,9 +174,9 @@ impl Text {
     /// Adds an access of a configuration space: its name, the function, the offset and the width.
     fn config(&mut self, name: &str, func: u8, off: u16, width: u8)
         requires short { length name.now ≤ 8 }
-        requires room { CONFIG_ROOM ≤ self.old.room }
+        requires spare { CONFIG_SPARE ≤ self.old.spare }
         ensures added { Added self.old self.new (name.now ++ word (decimal func) ++ word (offset off) ++ word (decimal width)) }
-        ensures room { self.old.room ≤ self.new.room + CONFIG_ROOM }
+        ensures spare { self.old.spare ≤ self.new.spare + CONFIG_SPARE }
     {
         self.named_number(name, func as u64);
         self.offset_word(off);
@@ -185,9 +186,9 @@ impl Text {
     /// Adds a store in a configuration space: the value in the digits of its width, at most 8 bytes.
     fn config_store(&mut self, func: u8, off: u16, width: u8, value: u32)
         requires width { width ≤ 8 }
-        requires room { WORDS_ROOM ≤ self.old.room }
+        requires spare { WORDS_SPARE ≤ self.old.spare }
         ensures added { Added self.old self.new (access_text (CfgStore func off width value)) }
-        ensures room { self.old.room ≤ self.new.room + WORDS_ROOM }
+        ensures spare { self.old.spare ≤ self.new.spare + WORDS_SPARE }
     {
         self.config("cfgstore", func, off, width);
         self.low_digits_word(width, value as u64);
@@ -196,9 +197,9 @@ impl Text {
     /// Adds a channel instruction with the address of a block.
     fn channel(&mut self, name: &str, id: u32, addr: u64)
         requires short { length name.now ≤ 8 }
-        requires room { WORDS_ROOM ≤ self.old.room }
+        requires spare { WORDS_SPARE ≤ self.old.spare }
         ensures added { Added self.old self.new (name.now ++ word (address id) ++ word (address addr)) }
-        ensures room { self.old.room ≤ self.new.room + WORDS_ROOM }
+        ensures spare { self.old.spare ≤ self.new.spare + WORDS_SPARE }
     {
         self.named_address(name, id as u64);
         self.address_word(addr);
@@ -206,9 +207,9 @@ impl Text {
 
     /// Adds a diagnose: the function, the subchannel, the value and the cookie.
     fn diag(&mut self, func: u64, id: u32, value: u64, cookie: u64)
-        requires { WORDS_ROOM ≤ self.old.room }
+        requires { WORDS_SPARE ≤ self.old.spare }
         ensures added { Added self.old self.new (access_text (Diag func id value cookie)) }
-        ensures room { self.old.room ≤ self.new.room + WORDS_ROOM }
+        ensures spare { self.old.spare ≤ self.new.spare + WORDS_SPARE }
     {
         self.named_digits("diag", 8, func);
         self.address_word(id as u64);
@@ -219,9 +220,9 @@ impl Text {
     /// Adds the answer of an access. The bytes of a get are in the room.
     fn answer_text(&mut self, a: &Access<'_>, answer: &Answer, room: &Room)
         requires limits { IsWithinLimits (access_value a.now) }
-        requires room { ANSWER_ROOM ≤ self.old.room }
+        requires spare { ANSWER_SPARE ≤ self.old.spare }
         ensures added { Added self.old self.new (answer_text (access_value a.now) answer.now (got answer.now room.now.items)) }
-        ensures room { self.old.room ≤ self.new.room + ANSWER_ROOM }
+        ensures spare { self.old.spare ≤ self.new.spare + ANSWER_SPARE }
     {
         match *answer {
             Answer::Word(n) => self.low_digits(answer_width(a), n),

@@ -5,7 +5,7 @@ ghost use Rattle.std.specs.List.{list_all};
 ghost use Rattle.report_text.specs.EndParts.{disk_line, end_line, fault_line, frame_line, frames_line, sector_line, sector_text, too_long_line, unreadable_line};
 ghost use Rattle.report_text.specs.Text.{Added};
 
-use crate::text::{LINE_ROOM, SHORT_ROOM, Text};
+use crate::text::{LINE_SPARE, SHORT_SPARE, Text};
 
 /// Whether all bytes are zeros.
 fn is_zero(bytes: &[u8]) -> bool
@@ -17,19 +17,19 @@ fn is_zero(bytes: &[u8]) -> bool
 impl Text {
     /// Adds the line of how many frames were sent.
     pub fn frames(&mut self, count: u64)
-        requires { SHORT_ROOM ≤ self.old.room }
+        requires { SHORT_SPARE ≤ self.old.spare }
         ensures added { Added self.old self.new (frames_line count) }
-        ensures room { self.old.room ≤ self.new.room + SHORT_ROOM }
+        ensures spare { self.old.spare ≤ self.new.spare + SHORT_SPARE }
     {
         self.named_number("frames", count);
         self.text("\n");
     }
 
-    /// Adds the line of a sent frame. It needs room for two digits for each byte, beside that for a short line.
+    /// Adds the line of a sent frame. It needs two spare bytes for each byte, beside those for a short line.
     pub fn frame(&mut self, bytes: &[u8])
-        requires { SHORT_ROOM + 2 * length bytes.now ≤ self.old.room }
+        requires { SHORT_SPARE + 2 * length bytes.now ≤ self.old.spare }
         ensures added { Added self.old self.new (frame_line bytes.now) }
-        ensures room { self.old.room ≤ self.new.room + SHORT_ROOM + 2 * length bytes.now }
+        ensures spare { self.old.spare ≤ self.new.spare + SHORT_SPARE + 2 * length bytes.now }
     {
         self.named_hex("frame", bytes);
         self.text("\n");
@@ -37,9 +37,9 @@ impl Text {
 
     /// Adds the line of how many sectors the disk has.
     pub fn disk(&mut self, count: u64)
-        requires { SHORT_ROOM ≤ self.old.room }
+        requires { SHORT_SPARE ≤ self.old.spare }
         ensures added { Added self.old self.new (disk_line count) }
-        ensures room { self.old.room ≤ self.new.room + SHORT_ROOM }
+        ensures spare { self.old.spare ≤ self.new.spare + SHORT_SPARE }
     {
         self.named_number("disk", count);
         self.text("\n");
@@ -47,9 +47,9 @@ impl Text {
 
     /// Adds the line of a sector, where it isn't all zeros.
     pub fn sector(&mut self, n: u64, bytes: &[u8; 512])
-        requires { LINE_ROOM ≤ self.old.room }
+        requires { LINE_SPARE ≤ self.old.spare }
         ensures added { Added self.old self.new (sector_text n bytes.now) }
-        ensures room { self.old.room ≤ self.new.room + LINE_ROOM }
+        ensures spare { self.old.spare ≤ self.new.spare + LINE_SPARE }
     {
         if is_zero(bytes) {
             return;
@@ -61,9 +61,9 @@ impl Text {
 
     /// Adds the line of a sector that can't be read.
     pub fn unreadable(&mut self, n: u64)
-        requires { SHORT_ROOM ≤ self.old.room }
+        requires { SHORT_SPARE ≤ self.old.spare }
         ensures added { Added self.old self.new (unreadable_line n) }
-        ensures room { self.old.room ≤ self.new.room + SHORT_ROOM }
+        ensures spare { self.old.spare ≤ self.new.spare + SHORT_SPARE }
     {
         self.named_number("sector", n);
         self.text(" unreadable\n");
@@ -71,18 +71,18 @@ impl Text {
 
     /// Adds the line after all end parts.
     pub fn end(&mut self)
-        requires { SHORT_ROOM ≤ self.old.room }
+        requires { SHORT_SPARE ≤ self.old.spare }
         ensures added { Added self.old self.new end_line }
-        ensures room { self.old.room ≤ self.new.room + SHORT_ROOM }
+        ensures spare { self.old.spare ≤ self.new.spare + SHORT_SPARE }
     {
         self.text("end\n");
     }
 
     /// Adds the line of a script's line that is not in the grammar: its number.
     pub fn fault(&mut self, line: u32)
-        requires { SHORT_ROOM ≤ self.old.room }
+        requires { SHORT_SPARE ≤ self.old.spare }
         ensures added { Added self.old self.new (fault_line line) }
-        ensures room { self.old.room ≤ self.new.room + SHORT_ROOM }
+        ensures spare { self.old.spare ≤ self.new.spare + SHORT_SPARE }
     {
         self.named_number("fault", line as u64);
         self.text("\n");
@@ -90,9 +90,9 @@ impl Text {
 
     /// Adds the line of a script with too many bytes.
     pub fn too_long(&mut self)
-        requires { SHORT_ROOM ≤ self.old.room }
+        requires { SHORT_SPARE ≤ self.old.spare }
         ensures added { Added self.old self.new too_long_line }
-        ensures room { self.old.room ≤ self.new.room + SHORT_ROOM }
+        ensures spare { self.old.spare ≤ self.new.spare + SHORT_SPARE }
     {
         self.text("too long\n");
     }

@@ -1,17 +1,15 @@
 //! The lines of events in a trace.
 
 ghost use Rattle.std.specs.Prelude.{◌≡◌, ◌+◌, ◌≤◌, length};
+ghost use Rattle.vt_types.specs.Limits.{LONGEST_FRAME};
 ghost use Rattle.report_text.specs.Event.{device_text, event_bytes, event_line, event_text};
 ghost use Rattle.report_text.specs.Text.{Added};
 
-use crate::text::{EVENT_ROOM, Text};
+use crate::text::{EVENT_SPARE, Text};
 use vt_types::{Dev, Event};
 
-/// The most bytes of a frame or of keys that come with an event (our own).
-pub const LONGEST_EVENT: u32 = 2_048;
-
-/// Room that is enough for an event, in bytes.
-const EVENT_TEXT_ROOM: u32 = 4_160;
+/// Spare bytes that are enough for an event.
+const EVENT_TEXT_SPARE: u32 = 4_160;
 
 /// A device as a script names it.
 fn device_name(dev: Dev) -> &'static str
@@ -26,12 +24,12 @@ fn device_name(dev: Dev) -> &'static str
 }
 
 impl Text {
-    /// Adds the line of an event: with at most `LONGEST_EVENT` bytes.
+    /// Adds the line of an event: with at most `LONGEST_FRAME` bytes.
     pub fn event(&mut self, e: &Event)
-        requires few { length (event_bytes e.now) ≤ LONGEST_EVENT }
-        requires room { EVENT_ROOM ≤ self.old.room }
+        requires few { length (event_bytes e.now) ≤ LONGEST_FRAME }
+        requires spare { EVENT_SPARE ≤ self.old.spare }
         ensures added { Added self.old self.new (event_line e.now) }
-        ensures room { self.old.room ≤ self.new.room + EVENT_ROOM }
+        ensures spare { self.old.spare ≤ self.new.spare + EVENT_SPARE }
     {
         self.text("* ");
         self.event_text(e);
@@ -40,10 +38,10 @@ impl Text {
 
     /// Adds an event.
     fn event_text(&mut self, e: &Event)
-        requires few { length (event_bytes e.now) ≤ LONGEST_EVENT }
-        requires room { EVENT_TEXT_ROOM ≤ self.old.room }
+        requires few { length (event_bytes e.now) ≤ LONGEST_FRAME }
+        requires spare { EVENT_TEXT_SPARE ≤ self.old.spare }
         ensures added { Added self.old self.new (event_text e.now) }
-        ensures room { self.old.room ≤ self.new.room + EVENT_TEXT_ROOM }
+        ensures spare { self.old.spare ≤ self.new.spare + EVENT_TEXT_SPARE }
     {
         match e {
             Event::Serve { dev, queue } => self.serve(*dev, *queue),
@@ -59,9 +57,9 @@ impl Text {
 
     /// Adds that a device serves a queue.
     fn serve(&mut self, dev: Dev, queue: u16)
-        requires { EVENT_TEXT_ROOM ≤ self.old.room }
+        requires { EVENT_TEXT_SPARE ≤ self.old.spare }
         ensures added { Added self.old self.new (event_text (Event.Serve dev queue)) }
-        ensures room { self.old.room ≤ self.new.room + EVENT_TEXT_ROOM }
+        ensures spare { self.old.spare ≤ self.new.spare + EVENT_TEXT_SPARE }
     {
         self.text("serve");
         self.word(device_name(dev));
@@ -70,9 +68,9 @@ impl Text {
 
     /// Adds that the console has another size.
     fn consize(&mut self, cols: u16, rows: u16)
-        requires { EVENT_TEXT_ROOM ≤ self.old.room }
+        requires { EVENT_TEXT_SPARE ≤ self.old.spare }
         ensures added { Added self.old self.new (event_text (Event.Consize cols rows)) }
-        ensures room { self.old.room ≤ self.new.room + EVENT_TEXT_ROOM }
+        ensures spare { self.old.spare ≤ self.new.spare + EVENT_TEXT_SPARE }
     {
         self.named_number("consize", cols as u64);
         self.number_word(rows as u64);

@@ -1,19 +1,19 @@
 //! The lines of replies.
 
 ghost use Rattle.std.specs.Prelude.{◌≡◌, ◌+◌, ◌≤◌, length};
-ghost use Rattle.vt_types.specs.Access.{LONGEST_ACCESS};
+ghost use Rattle.vt_types.specs.Limits.{LONGEST_BUFFER};
 ghost use Rattle.vt_types.specs.Reply.{Refused, Signals, Used, reply_value};
 ghost use Rattle.report_text.specs.Reply.{reply_line, reply_text, why_text};
 ghost use Rattle.report_text.specs.Text.{Added};
 
-use crate::text::{LINE_ROOM, Text};
+use crate::text::{LINE_SPARE, Text};
 use vt_types::{Place, Reply, Room, Why};
 
-/// Room that is enough for a reply, in bytes.
-const REPLY_ROOM: u32 = 16_512;
+/// Spare bytes that are enough for a reply.
+const REPLY_SPARE: u32 = 16_512;
 
-/// Room that is enough for the queues that signalled, in bytes.
-const SIGNALS_ROOM: u32 = 400;
+/// Spare bytes that are enough for the queues that signalled.
+const SIGNALS_SPARE: u32 = 400;
 
 /// The name of a refusal.
 fn why_name(why: Why) -> &'static str
@@ -37,9 +37,9 @@ impl Text {
     /// Adds the line of a reply: the number of the script's line, the reply, the place of the operation's marked access
     /// and the number of its accesses. The written bytes of a used buffer are in the room.
     pub fn reply(&mut self, line: u32, reply: &Reply, room: &Room, place: Place)
-        requires { LINE_ROOM ≤ self.old.room }
+        requires { LINE_SPARE ≤ self.old.spare }
         ensures added { Added self.old self.new (reply_line line (reply_value reply.now room.now.items) place.p place.n) }
-        ensures room { self.old.room ≤ self.new.room + LINE_ROOM }
+        ensures spare { self.old.spare ≤ self.new.spare + LINE_SPARE }
     {
         self.number(line as u64);
         self.text(" ");
@@ -53,9 +53,9 @@ impl Text {
 
     /// Adds a reply. The written bytes of a used buffer are in the room.
     fn reply_text(&mut self, reply: &Reply, room: &Room)
-        requires { REPLY_ROOM ≤ self.old.room }
+        requires { REPLY_SPARE ≤ self.old.spare }
         ensures added { Added self.old self.new (reply_text (reply_value reply.now room.now.items)) }
-        ensures room { self.old.room ≤ self.new.room + REPLY_ROOM }
+        ensures spare { self.old.spare ≤ self.new.spare + REPLY_SPARE }
     {
         match reply {
             Reply::Good => self.text("ok"),
@@ -74,12 +74,12 @@ impl Text {
     }
 
     /// Adds a used buffer: its tag, how many bytes were written, and these bytes: at most
-    /// `LONGEST_ACCESS`.
+    /// `LONGEST_BUFFER`.
     fn used(&mut self, tag: u16, len: u32, bytes: &[u8])
-        requires few { length bytes.now ≤ LONGEST_ACCESS }
-        requires room { REPLY_ROOM ≤ self.old.room }
+        requires few { length bytes.now ≤ LONGEST_BUFFER }
+        requires spare { REPLY_SPARE ≤ self.old.spare }
         ensures added { Added self.old self.new (reply_text (Used tag len bytes.now)) }
-        ensures room { self.old.room ≤ self.new.room + REPLY_ROOM }
+        ensures spare { self.old.spare ≤ self.new.spare + REPLY_SPARE }
     {
         self.text("used");
         self.number_word(tag as u64);
@@ -90,9 +90,9 @@ impl Text {
     /// Adds the queues that signalled: at most 16.
     fn signals(&mut self, queues: &[u16])
         requires few { length queues.now ≤ 16 }
-        requires room { SIGNALS_ROOM ≤ self.old.room }
+        requires spare { SIGNALS_SPARE ≤ self.old.spare }
         ensures added { Added self.old self.new (reply_text (Signals queues.now)) }
-        ensures room { self.old.room ≤ self.new.room + SIGNALS_ROOM }
+        ensures spare { self.old.spare ≤ self.new.spare + SIGNALS_SPARE }
     {
         if queues.is_empty() {
             self.text("irq none");
@@ -104,9 +104,9 @@ impl Text {
 
     /// Adds a refusal.
     fn refused(&mut self, why: Why)
-        requires { SIGNALS_ROOM ≤ self.old.room }
+        requires { SIGNALS_SPARE ≤ self.old.spare }
         ensures added { Added self.old self.new (reply_text (Refused why)) }
-        ensures room { self.old.room ≤ self.new.room + SIGNALS_ROOM }
+        ensures spare { self.old.spare ≤ self.new.spare + SIGNALS_SPARE }
     {
         self.text("refused");
         self.word(why_name(why));

@@ -4,12 +4,13 @@ ghost use Rattle.std.specs.Prelude.{◌≤◌, length, IsTrue};
 ghost use Rattle.vt_types.specs.Access.{IsWithinLimits, access_value, is_width};
 ghost use Rattle.report_text.specs.Event.{event_bytes};
 
-use crate::{LINE_ROOM, LONGEST_EVENT, Text};
+use crate::{LINE_SPARE, Text, access_line_is_short, event_line_is_short, limits_are_defined};
 use arrayvec::ArrayVec;
 use std::alloc::Global;
 use std::test::Fail;
 use vt_types::{
-    Access, Answer, Bytes, Dev, Event, LONGEST_ACCESS, Memory, Place, Reply, Room, Turn, Why,
+    Access, Answer, Bytes, Dev, Event, LONGEST_BUFFER, LONGEST_FRAME, Memory, Place, Reply, Room,
+    Turn, Why,
 };
 
 fn room_of(bytes: &[u8]) -> Room {
@@ -86,8 +87,8 @@ fn is_within_limits(a: &Access<'_>) -> bool
         Access::CfgLoad { off, width, .. } | Access::CfgStore { off, width, .. } => {
             off <= 0xfff && is_width(width)
         }
-        Access::Put { bytes, .. } => !bytes.is_empty() && bytes.len() <= LONGEST_ACCESS,
-        Access::Get { count, .. } => 1 <= count && count as usize <= LONGEST_ACCESS,
+        Access::Put { bytes, .. } => !bytes.is_empty() && bytes.len() <= LONGEST_BUFFER,
+        Access::Get { count, .. } => 1 <= count && count as usize <= LONGEST_BUFFER,
         Access::Zero { count, .. } => 1 <= count,
         Access::Swap { .. }
         | Access::Ssch { .. }
@@ -307,10 +308,10 @@ fn bytes_of(alloc: Global, bytes: &[u8]) -> Result<Bytes, Memory> {
 
 /// Whether an event has few enough bytes.
 fn has_few_bytes(e: &Event) -> bool
-    ensures { IsTrue result → length (event_bytes e.now) ≤ LONGEST_EVENT }
+    ensures { IsTrue result → length (event_bytes e.now) ≤ LONGEST_FRAME }
 {
     match e {
-        Event::Frame(bytes) | Event::Key(bytes) => bytes.len() <= LONGEST_EVENT as usize,
+        Event::Frame(bytes) | Event::Key(bytes) => bytes.len() <= LONGEST_FRAME,
         Event::Serve { .. }
         | Event::Resize(_)
         | Event::Link(_)
@@ -354,9 +355,18 @@ fn events_have_their_lines(rt: HostRuntime) -> Result<(), Fail> {
 }
 
 #[test]
+fn no_line_of_a_trace_is_too_long() {
+    let get = Access::Get { addr: 0, count: 2 };
+    access_line_is_short(&get, &Answer::Got, &room_of(&[0, 0x80]));
+    let load = Access::Load { addr: 0, width: 4 };
+    access_line_is_short(&load, &Answer::Word(u64::MAX), &room_of(&[7]));
+    event_line_is_short(&Event::Resize(u64::MAX));
+}
+
+#[test]
 fn the_end_parts_have_their_lines(rt: HostRuntime) -> Result<(), Fail> {
     let mut text = Text::new(rt.alloc())?;
-    text.reserve(rt.alloc(), 4 * LINE_ROOM)?;
+    text.reserve(rt.alloc(), 4 * LINE_SPARE)?;
     text.frames(1);
     text.frame(&[0xe2; 3]);
     text.text("console ");
@@ -366,6 +376,7 @@ fn the_end_parts_have_their_lines(rt: HostRuntime) -> Result<(), Fail> {
     text.sector(7, &[0; 512]);
     text.unreadable(8);
     text.end();
+    limits_are_defined();
     let want = b"frames 1\nframe e2e2e2\nconsole 68656c6c6f\ndisk 2048\nsector 8 unreadable\nend\n";
     assert_eq!(rt; text.bytes(), want.as_slice());
     Ok(())

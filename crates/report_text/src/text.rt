@@ -1,8 +1,9 @@
-//! A text with room that was reserved.
+//! A text over a buffer with spare bytes.
 
 ghost use Rattle.std.specs.Prelude.{◌≡◌, ◌+◌, ◌*◌, ◌≤◌, [], length, IfOk, OnOk};
 ghost use Rattle.std.specs.Fmt.{decimal};
 ghost use Rattle.hex.specs.Hex.{encode_lower};
+ghost use Rattle.report_text.specs.Text as spec;
 ghost use Rattle.report_text.specs.Text.{Added};
 ghost use Rattle.report_text.specs.Words.{hex};
 
@@ -12,20 +13,26 @@ use std::alloc::Global;
 use std::marker::Model;
 use vt_types::Memory;
 
-/// Room that is enough for the line of an access, a reply or a sector, in bytes: for `LONGEST_ACCESS` bytes in
+/// Spare bytes that are enough for the line of an access, a reply or a sector: for `LONGEST_BUFFER` bytes in
 /// hexadecimal both in an access and in its answer, and the words around them.
-pub const LINE_ROOM: u32 = 33_024;
+pub const LINE_SPARE: u32 = 33_024;
 
-/// Room that is enough for the line of an event, in bytes.
-pub const EVENT_ROOM: u32 = 8_192;
+/// Spare bytes that are enough for the line of an event.
+pub const EVENT_SPARE: u32 = 8_192;
 
-/// Room that is enough for a line of words and one number, in bytes.
-pub const SHORT_ROOM: u32 = 64;
+/// Spare bytes that are enough for a line of words and one number.
+pub const SHORT_SPARE: u32 = 64;
 
-/// Room that is enough for a number in decimal digits, in bytes.
-pub const NUMBER_ROOM: u32 = 20;
+/// Spare bytes that are enough for a number in decimal digits.
+pub const NUMBER_SPARE: u32 = 20;
 
-/// A text with room that was reserved, so that adding to it never fails.
+/// The spare bytes for a line are the definitions'. Does nothing.
+pub fn limits_are_defined()
+    ensures line { LINE_SPARE ≡ spec.LINE_SPARE }
+    ensures event { EVENT_SPARE ≡ spec.EVENT_SPARE }
+{}
+
+/// A text over a buffer with spare bytes, so that adding to it never fails.
 #[derive(Drop)]
 pub struct Text {
     bytes: Vec<u8>,
@@ -37,24 +44,24 @@ impl Model for Text {
 
     ghost Value = { TextView };
 
-    ghost view = { λ t. record { bytes = t.bytes.items; room = vec_capacity t.bytes - length t.bytes.items } };
+    ghost view = { λ t. record { bytes = t.bytes.items; spare = vec_capacity t.bytes - length t.bytes.items } };
 }
 
 impl Text {
-    /// An empty text with room for a line.
+    /// An empty text with spare bytes for a line.
     pub fn new(alloc: Global) -> Result<Text, Memory>
         ensures empty { IfOk result (λ text. text.bytes ≡ []) }
-        ensures room { IfOk result (λ text. LINE_ROOM ≤ text.room) }
+        ensures spare { IfOk result (λ text. LINE_SPARE ≤ text.spare) }
     {
-        let bytes = Vec::with_capacity(alloc, LINE_ROOM as usize)?;
+        let bytes = Vec::with_capacity(alloc, LINE_SPARE as usize)?;
         Ok(Text { bytes })
     }
 
-    /// Sees to it that there is room for `n` more bytes. `Memory` leaves the room that there was.
+    /// Sees to it that there are `n` spare bytes. `Memory` leaves the spare bytes that there were.
     pub fn reserve(&mut self, alloc: Global, n: u32) -> Result<(), Memory>
         ensures bytes { self.new.bytes ≡ self.old.bytes }
-        ensures room { self.old.room ≤ self.new.room }
-        ensures ok { OnOk result (n ≤ self.new.room) }
+        ensures spare { self.old.spare ≤ self.new.spare }
+        ensures ok { OnOk result (n ≤ self.new.spare) }
     {
         let _ = alloc;
         self.bytes.reserve(n as usize)
@@ -67,17 +74,17 @@ impl Text {
         self.bytes.as_slice()
     }
 
-    /// Takes all bytes away. The room stays, and what they took is room again.
+    /// Takes all bytes away. The spare bytes stay, and those that they took are spare again.
     pub fn clear(&mut self)
         ensures bytes { self.new.bytes ≡ [] }
-        ensures room { self.old.room + length self.old.bytes ≤ self.new.room }
+        ensures spare { self.old.spare + length self.old.bytes ≤ self.new.spare }
     {
         self.bytes.clear();
     }
 
     /// Adds bytes as they are.
     pub(crate) fn add(&mut self, bytes: &[u8])
-        requires { length bytes.now ≤ self.old.room }
+        requires { length bytes.now ≤ self.old.spare }
         ensures { Added self.old self.new bytes.now }
     {
         let _fits = self.bytes.extend_from_slice(bytes);
@@ -85,7 +92,7 @@ impl Text {
 
     /// Adds a text as it is.
     pub fn text(&mut self, s: &str)
-        requires { length s.now ≤ self.old.room }
+        requires { length s.now ≤ self.old.spare }
         ensures { Added self.old self.new s.now }
     {
         self.add(s.as_bytes());
@@ -93,9 +100,9 @@ impl Text {
 
     /// Adds a number in decimal digits.
     pub fn number(&mut self, n: u64)
-        requires { NUMBER_ROOM ≤ self.old.room }
+        requires { NUMBER_SPARE ≤ self.old.spare }
         ensures added { Added self.old self.new (decimal n) }
-        ensures room { self.old.room ≤ self.new.room + NUMBER_ROOM }
+        ensures spare { self.old.spare ≤ self.new.spare + NUMBER_SPARE }
     {
         let mut buffer = Buffer::new();
         self.text(buffer.format(n));
@@ -103,9 +110,9 @@ impl Text {
 
     /// Adds two hexadecimal digits for each byte.
     pub(crate) fn digits(&mut self, bytes: &[u8])
-        requires { 2 * length bytes.now ≤ self.old.room }
+        requires { 2 * length bytes.now ≤ self.old.spare }
         ensures added { Added self.old self.new (encode_lower bytes.now) }
-        ensures room { self.old.room ≤ self.new.room + 2 * length bytes.now }
+        ensures spare { self.old.spare ≤ self.new.spare + 2 * length bytes.now }
     {
         let start = self.bytes.len();
         let end = start + 2 * bytes.len();
@@ -115,9 +122,9 @@ impl Text {
 
     /// Adds bytes in hexadecimal: two lower-case digits for each, or `-` where there are none.
     pub fn hex(&mut self, bytes: &[u8])
-        requires { 2 * length bytes.now + 1 ≤ self.old.room }
+        requires { 2 * length bytes.now + 1 ≤ self.old.spare }
         ensures added { Added self.old self.new (hex bytes.now) }
-        ensures room { self.old.room ≤ self.new.room + 2 * length bytes.now + 1 }
+        ensures spare { self.old.spare ≤ self.new.spare + 2 * length bytes.now + 1 }
     {
         if bytes.is_empty() {
             self.text("-");

@@ -10,14 +10,14 @@ ghost use Rattle.report_text.specs.Words.{hex, hex_number, low_digits, numbers, 
 use crate::text::Text;
 use hex::encode_to_slice;
 
-/// Room that is enough for the hexadecimal digits of a number, in bytes.
-const DIGITS_ROOM: u32 = 16;
+/// Spare bytes that are enough for the hexadecimal digits of a number.
+pub(crate) const DIGITS_SPARE: u32 = 16;
 
-/// Room that is enough for a space and a number in any form, in bytes.
-pub(crate) const WORD_ROOM: u32 = 24;
+/// Spare bytes that are enough for a space and a number in any form.
+pub(crate) const WORD_SPARE: u32 = 24;
 
-/// Room that is enough for a name of at most 8 bytes and such a word, in bytes.
-pub(crate) const NAMED_ROOM: u32 = 32;
+/// Spare bytes that are enough for a name of at most 8 bytes and such a word.
+pub(crate) const NAMED_SPARE: u32 = 32;
 
 /// How many hexadecimal digits a number of 64 bits has.
 const ALL_DIGITS: usize = 16;
@@ -43,9 +43,9 @@ impl Text {
     /// Adds the low `width` bytes of a number in hexadecimal: at most 8.
     pub(crate) fn low_digits(&mut self, width: u8, n: u64)
         requires width { width ≤ 8 }
-        requires room { DIGITS_ROOM ≤ self.old.room }
+        requires spare { DIGITS_SPARE ≤ self.old.spare }
         ensures added { Added self.old self.new (low_digits width n) }
-        ensures room { self.old.room ≤ self.new.room + DIGITS_ROOM }
+        ensures spare { self.old.spare ≤ self.new.spare + DIGITS_SPARE }
     {
         let bytes = n.to_be_bytes();
         self.digits(&bytes[8 - width as usize..]);
@@ -55,9 +55,9 @@ impl Text {
     fn hex_number(&mut self, least: usize, n: u64)
         requires some { 1 ≤ least }
         requires few { least ≤ ALL_DIGITS }
-        requires room { DIGITS_ROOM ≤ self.old.room }
+        requires spare { DIGITS_SPARE ≤ self.old.spare }
         ensures added { Added self.old self.new (hex_number least n) }
-        ensures room { self.old.room ≤ self.new.room + DIGITS_ROOM }
+        ensures spare { self.old.spare ≤ self.new.spare + DIGITS_SPARE }
     {
         let digits = all_digits(n);
         let zeros = leading_zeros(&digits[..ALL_DIGITS - least]);
@@ -66,7 +66,7 @@ impl Text {
 
     /// Adds a word.
     pub(crate) fn word(&mut self, s: &str)
-        requires { length s.now + 1 ≤ self.old.room }
+        requires { length s.now + 1 ≤ self.old.spare }
         ensures { Added self.old self.new (word s.now) }
     {
         self.text(" ");
@@ -75,9 +75,9 @@ impl Text {
 
     /// Adds a number in decimal digits as a word.
     pub(crate) fn number_word(&mut self, n: u64)
-        requires { WORD_ROOM ≤ self.old.room }
+        requires { WORD_SPARE ≤ self.old.spare }
         ensures added { Added self.old self.new (word (decimal n)) }
-        ensures room { self.old.room ≤ self.new.room + WORD_ROOM }
+        ensures spare { self.old.spare ≤ self.new.spare + WORD_SPARE }
     {
         self.text(" ");
         self.number(n);
@@ -86,9 +86,9 @@ impl Text {
     /// Adds the low bytes of a number as a word.
     pub(crate) fn low_digits_word(&mut self, width: u8, n: u64)
         requires width { width ≤ 8 }
-        requires room { WORD_ROOM ≤ self.old.room }
+        requires spare { WORD_SPARE ≤ self.old.spare }
         ensures added { Added self.old self.new (word (low_digits width n)) }
-        ensures room { self.old.room ≤ self.new.room + WORD_ROOM }
+        ensures spare { self.old.spare ≤ self.new.spare + WORD_SPARE }
     {
         self.text(" ");
         self.low_digits(width, n);
@@ -96,9 +96,9 @@ impl Text {
 
     /// Adds an address, or the id of a subchannel, as a word.
     pub(crate) fn address_word(&mut self, n: u64)
-        requires { WORD_ROOM ≤ self.old.room }
+        requires { WORD_SPARE ≤ self.old.spare }
         ensures added { Added self.old self.new (word (address n)) }
-        ensures room { self.old.room ≤ self.new.room + WORD_ROOM }
+        ensures spare { self.old.spare ≤ self.new.spare + WORD_SPARE }
     {
         self.text(" ");
         self.hex_number(8, n);
@@ -106,9 +106,9 @@ impl Text {
 
     /// Adds an offset in a configuration space as a word.
     pub(crate) fn offset_word(&mut self, n: u16)
-        requires { WORD_ROOM ≤ self.old.room }
+        requires { WORD_SPARE ≤ self.old.spare }
         ensures added { Added self.old self.new (word (offset n)) }
-        ensures room { self.old.room ≤ self.new.room + WORD_ROOM }
+        ensures spare { self.old.spare ≤ self.new.spare + WORD_SPARE }
     {
         self.text(" ");
         self.hex_number(2, n as u64);
@@ -116,9 +116,9 @@ impl Text {
 
     /// Adds bytes in hexadecimal as a word.
     pub(crate) fn hex_word(&mut self, bytes: &[u8])
-        requires { 2 * length bytes.now + 2 ≤ self.old.room }
+        requires { 2 * length bytes.now + 2 ≤ self.old.spare }
         ensures added { Added self.old self.new (word (hex bytes.now)) }
-        ensures room { self.old.room ≤ self.new.room + 2 * length bytes.now + 2 }
+        ensures spare { self.old.spare ≤ self.new.spare + 2 * length bytes.now + 2 }
     {
         self.text(" ");
         self.hex(bytes);
@@ -126,9 +126,9 @@ impl Text {
 
     /// Adds numbers, each as a word.
     pub(crate) fn number_words(&mut self, all: &[u16])
-        requires { WORD_ROOM * length all.now ≤ self.old.room }
+        requires { WORD_SPARE * length all.now ≤ self.old.spare }
         ensures added { Added self.old self.new (numbers all.now) }
-        ensures room { self.old.room ≤ self.new.room + WORD_ROOM * length all.now }
+        ensures spare { self.old.spare ≤ self.new.spare + WORD_SPARE * length all.now }
     {
         'numbers: for n in all {
             self.number_word(*n as u64);
@@ -138,9 +138,9 @@ impl Text {
     /// Adds a name of at most 8 bytes, and a number in decimal digits.
     pub(crate) fn named_number(&mut self, name: &str, n: u64)
         requires short { length name.now ≤ 8 }
-        requires room { NAMED_ROOM ≤ self.old.room }
+        requires spare { NAMED_SPARE ≤ self.old.spare }
         ensures added { Added self.old self.new (name.now ++ word (decimal n)) }
-        ensures room { self.old.room ≤ self.new.room + NAMED_ROOM }
+        ensures spare { self.old.spare ≤ self.new.spare + NAMED_SPARE }
     {
         self.text(name);
         self.number_word(n);
@@ -150,9 +150,9 @@ impl Text {
     pub(crate) fn named_digits(&mut self, name: &str, width: u8, n: u64)
         requires short { length name.now ≤ 8 }
         requires width { width ≤ 8 }
-        requires room { NAMED_ROOM ≤ self.old.room }
+        requires spare { NAMED_SPARE ≤ self.old.spare }
         ensures added { Added self.old self.new (name.now ++ word (low_digits width n)) }
-        ensures room { self.old.room ≤ self.new.room + NAMED_ROOM }
+        ensures spare { self.old.spare ≤ self.new.spare + NAMED_SPARE }
     {
         self.text(name);
         self.low_digits_word(width, n);
@@ -161,9 +161,9 @@ impl Text {
     /// Adds a name of at most 8 bytes, and an address or the id of a subchannel.
     pub(crate) fn named_address(&mut self, name: &str, n: u64)
         requires short { length name.now ≤ 8 }
-        requires room { NAMED_ROOM ≤ self.old.room }
+        requires spare { NAMED_SPARE ≤ self.old.spare }
         ensures added { Added self.old self.new (name.now ++ word (address n)) }
-        ensures room { self.old.room ≤ self.new.room + NAMED_ROOM }
+        ensures spare { self.old.spare ≤ self.new.spare + NAMED_SPARE }
     {
         self.text(name);
         self.address_word(n);
@@ -172,9 +172,9 @@ impl Text {
     /// Adds a name of at most 8 bytes, and bytes in hexadecimal.
     pub(crate) fn named_hex(&mut self, name: &str, bytes: &[u8])
         requires short { length name.now ≤ 8 }
-        requires room { NAMED_ROOM + 2 * length bytes.now ≤ self.old.room }
+        requires spare { NAMED_SPARE + 2 * length bytes.now ≤ self.old.spare }
         ensures added { Added self.old self.new (name.now ++ word (hex bytes.now)) }
-        ensures room { self.old.room ≤ self.new.room + NAMED_ROOM + 2 * length bytes.now }
+        ensures spare { self.old.spare ≤ self.new.spare + NAMED_SPARE + 2 * length bytes.now }
     {
         self.text(name);
         self.hex_word(bytes);

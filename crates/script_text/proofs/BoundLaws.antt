@@ -7,7 +7,7 @@ use Rattle.std.proofs.lemmas.List.Sums.{count_by-le-length, sum_by-cons}
 use Rattle.vt_types.specs.Operation.{PostedBuffer}
 use Rattle.script_text.specs.Post.{Piece, Readable, Writable, is_readable, is_writable, readable_bytes, piece_length, readable_first}
 use Rattle.script_text.specs.Pieces.{Has, Adds}
-use Rattle.script_text.specs.Within.{IsPieceWithin, IsBufferWithin}
+use Rattle.vt_types.specs.Within.{IsPieceWithin, IsBufferWithin}
 use Rattle.script_text.proofs.PostLaws.{lengths_of, readables_of}
 
 -- what holds of a list and of one more element

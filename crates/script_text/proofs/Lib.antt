@@ -5,5 +5,6 @@ pub mod EventLaws
 pub mod PostLaws
 pub mod BoundLaws
 pub mod LineLaws
+pub mod FormLaws
 pub mod TakenLaws
 pub mod ReaderLaws

@@ -6,7 +6,7 @@ use Rattle.std.proofs.lemmas.Bool.{ltb-true, ltb-false}
 use Rattle.std.proofs.lemmas.List.{length-take-le, length-drop}
 use Rattle.script_text.specs.Lines.{Lines, NoMore, TooMany, Line, lines_after}
 
--- the place that a search answers
+-- the location that a search answers
 found_by : (t : Bool) (m l n : ℕ) → ltb m l ≡ t → cond t (Some m) None ≡ Some n → (m ≡ n) × (m < l)
 found_by true m l n e h = (cc, ltb-true m l e)
 found_by false m l n e h = absurd cc
@@ -14,7 +14,7 @@ found_by false m l n e h = absurd cc
 pub found : (p : ℕ → Bool) (xs : List ℕ) (n : ℕ) → position p xs ≡ Some n → (position_or_len p xs ≡ n) × (position_or_len p xs < length xs)
 found p xs n h = found_by (ltb (position_or_len p xs) (length xs)) (position_or_len p xs) (length xs) n refl h
 
--- a search that answers no place
+-- a search that answers no location
 not_found_by : (t : Bool) (m l : ℕ) → ltb m l ≡ t → cond t (Some m) None ≡ None → l ≤ m
 not_found_by true m l e h = absurd cc
 not_found_by false m l e h = ltb-false m l e
@@ -22,20 +22,20 @@ not_found_by false m l e h = ltb-false m l e
 pub not_found : (p : ℕ → Bool) (xs : List ℕ) → position p xs ≡ None → length xs ≤ position_or_len p xs
 not_found p xs h = not_found_by (ltb (position_or_len p xs) (length xs)) (position_or_len p xs) (length xs) refl h
 
--- and the search of a place that is known
-at_place_by : (t : Bool) (m l n : ℕ) → ltb m l ≡ t → m ≡ n → n < l → cond t (Some m) None ≡ Some n
-at_place_by true m l n e same below = ap Some same
-at_place_by false m l n e same below = let h = ltb-false m l e in absurd (omega arith)
+-- and the search of a location that is known
+at_location_by : (t : Bool) (m l n : ℕ) → ltb m l ≡ t → m ≡ n → n < l → cond t (Some m) None ≡ Some n
+at_location_by true m l n e same below = ap Some same
+at_location_by false m l n e same below = let h = ltb-false m l e in absurd (omega arith)
 
-at_place : (p : ℕ → Bool) (xs : List ℕ) (n : ℕ) → position_or_len p xs ≡ n → n < length xs → position p xs ≡ Some n
-at_place p xs n same below = at_place_by (ltb (position_or_len p xs) (length xs)) (position_or_len p xs) (length xs) n refl same below
+at_location : (p : ℕ → Bool) (xs : List ℕ) (n : ℕ) → position_or_len p xs ≡ n → n < length xs → position p xs ≡ Some n
+at_location p xs n same below = at_location_by (ltb (position_or_len p xs) (length xs)) (position_or_len p xs) (length xs) n refl same below
 
-no_place_by : (t : Bool) (m l : ℕ) → ltb m l ≡ t → l ≤ m → cond t (Some m) None ≡ None
-no_place_by true m l e past = let h = ltb-true m l e in absurd (omega arith)
-no_place_by false m l e past = refl
+no_location_by : (t : Bool) (m l : ℕ) → ltb m l ≡ t → l ≤ m → cond t (Some m) None ≡ None
+no_location_by true m l e past = let h = ltb-true m l e in absurd (omega arith)
+no_location_by false m l e past = refl
 
-no_place : (p : ℕ → Bool) (xs : List ℕ) → length xs ≤ position_or_len p xs → position p xs ≡ None
-no_place p xs past = no_place_by (ltb (position_or_len p xs) (length xs)) (position_or_len p xs) (length xs) refl past
+no_location : (p : ℕ → Bool) (xs : List ℕ) → length xs ≤ position_or_len p xs → position p xs ≡ None
+no_location p xs past = no_location_by (ltb (position_or_len p xs) (length xs)) (position_or_len p xs) (length xs) refl past
 
 -- a search that finds nothing in a front goes on behind it
 go_on_by : (t : Bool) (p : ℕ → Bool) (x : ℕ) (xs ys : List ℕ) → p x ≡ t
@@ -57,7 +57,7 @@ found_behind p xs s n within none h =
     let len2 : length (drop s xs) ≡ length xs - s = length-drop s xs in
     let (same, below) = found p (drop s xs) n h in
     let behind = go_on p (take s xs) (drop s xs) (not_found p (take s xs) none) in
-    at_place p xs (s + n) (ap (position_or_len p) (sym whole) ∙ behind ∙ omega (arith, len, same)) (omega arith)
+    at_location p xs (s + n) (ap (position_or_len p) (sym whole) ∙ behind ∙ omega (arith, len, same)) (omega arith)
 
 pub none_behind : (p : ℕ → Bool) (xs : List ℕ) (s : ℕ) → s ≤ length xs → position p (take s xs) ≡ None → position p (drop s xs) ≡ None → position p xs ≡ None
 none_behind p xs s within none h =
@@ -67,7 +67,7 @@ none_behind p xs s within none h =
     let past = not_found p (drop s xs) h in
     let behind = go_on p (take s xs) (drop s xs) (not_found p (take s xs) none) in
     let same : position_or_len p xs ≡ length (take s xs) + position_or_len p (drop s xs) = ap (position_or_len p) (sym whole) ∙ behind in
-    no_place p xs (omega arith)
+    no_location p xs (omega arith)
 
 abbrev feeds : ℕ → Bool
 feeds b = b == 10

@@ -11,7 +11,7 @@ use Rattle.std.proofs.lemmas.List.Sums.{count_by-le-length, sum_by-append, sum_b
 use Rattle.vt_types.specs.Operation.{PostedBuffer, posted_buffer}
 use Rattle.script_text.specs.declared.fault.LineFault.{LineFault}
 use Rattle.script_text.specs.declared.fault.LineFault.TheVariants.{Bad, Memory}
-use Rattle.script_text.specs.Limits.{MOST_PIECES}
+use Rattle.vt_types.specs.Limits.{MOST_PIECES}
 use Rattle.script_text.specs.Words.{begins_with}
 use Rattle.script_text.specs.Reading.{Reads, read_on, gives_if, and_words}
 use Rattle.script_text.specs.Post.{Piece, Readable, Writable, is_readable, is_writable, readable_bytes, piece_length, piece_in, and_pieces, pieces, readable_first, buffer_of, buffer_in, posted_after}

@@ -8,7 +8,7 @@ use Rattle.vt_outside.specs.Source.{Moves}
 use Rattle.vt_outside.specs.Source.{SourceView}
 use Rattle.script_text.specs.declared.reader.NextFault.{NextFault}
 use Rattle.script_text.specs.declared.reader.NextFault.TheVariants.{Read, TooLong, Long, Memory}
-use Rattle.script_text.specs.Limits.{LONGEST_SCRIPT}
+use Rattle.vt_types.specs.Limits.{LONGEST_SCRIPT}
 use Rattle.script_text.specs.Lines.{NoMore, TooMany, Line, ReaderView, lines_after, input_left, lines_left, Stays, NextIs, Answers, Takes, KnowsEnd}
 use Rattle.script_text.specs.Reader.{without_line, with_bytes, behind_line, AnswersLine, AnswersRest, Gave}
 use Rattle.script_text.proofs.LineLaws.{found, not_found, lines_feed, lines_over, lines_last, at_end}

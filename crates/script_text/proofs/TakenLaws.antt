@@ -6,7 +6,7 @@ use Rattle.std.proofs.lemmas.Bool.{eqb-true}
 use Rattle.std.proofs.lemmas.List.{drop-drop, nil_from_length}
 use Rattle.script_text.specs.declared.reader.NextFault.{NextFault}
 use Rattle.script_text.specs.declared.reader.NextFault.TheVariants.{Read, TooLong, Long, Memory}
-use Rattle.script_text.specs.Limits.{LONGEST_SCRIPT}
+use Rattle.vt_types.specs.Limits.{LONGEST_SCRIPT}
 use Rattle.script_text.specs.Lines.{NoMore, Line, ReaderView, lines_after, bytes_taken, NextIs, Takes, KnowsEnd}
 use Rattle.script_text.specs.Reader.{with_bytes, behind_line, AnswersLine, AnswersRest, Gave}
 

@@ -5,7 +5,7 @@ use Rattle.std.specs.List.{position}
 use Rattle.vt_types.specs.declared.operation.Event.{Event}
 use Rattle.vt_types.specs.declared.operation.Event.TheVariants.{Serve, Frame, Key, Resize, Link, Consize, Diskfail}
 use Rattle.vt_types.specs.declared.operation.EventAt.{EventAt}
-use Rattle.script_text.specs.Limits.{LONGEST_FRAME, LONGEST_KEYS}
+use Rattle.vt_types.specs.Limits.{LONGEST_FRAME, LONGEST_KEYS}
 use Rattle.script_text.specs.Reading.{Reading, gives, ◌>>=◌, any_word, one_word, named}
 use Rattle.script_text.specs.Fields.{device, decimal, decimal_in, number16, hex_bytes, link_in}
 
@@ -66,10 +66,10 @@ event = do
   word ← any_word
   event_named word
 
--- what stands before a place, and what behind it
+-- what stands before a location, and what behind it
 abbrev pub around : List ℕ → Option ℕ → Option (List ℕ × List ℕ)
 around bytes None = None
-around bytes (Some place) = Some (take place bytes, drop (place + 1) bytes)
+around bytes (Some location) = Some (take location bytes, drop (location + 1) bytes)
 
 -- what stands before the first colon, and what behind it
 abbrev pub around_colon : List ℕ → Option (List ℕ × List ℕ)

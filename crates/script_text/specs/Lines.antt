@@ -2,7 +2,8 @@ use Rattle.std.specs.Prelude.{◌≡◌, ℕ, zero, suc, ◌+◌, ◌-◌, ◌<�
 use Rattle.vt_outside.specs.Faults.{Rose}
 use Rattle.script_text.specs.declared.reader.NextFault.{NextFault}
 use Rattle.script_text.specs.declared.reader.NextFault.TheVariants.{Read, TooLong, Long, Memory}
-use Rattle.script_text.specs.Limits.{LONGEST_LINE, LONGEST_SCRIPT}
+use Rattle.vt_types.specs.Limits.{LONGEST_SCRIPT}
+use Rattle.script_text.specs.Limits.{LONGEST_LINE}
 
 -- the lines of an input: up to its end, or up to where more bytes came than a script may have
 pub data Lines : Type 0 where

@@ -2,7 +2,7 @@ use Rattle.std.specs.Prelude.{◌≡◌, ◌+◌, ◌≤◌, ◌==◌, ◌&&◌,
 use Rattle.vt_types.specs.Operation.{PostedBuffer}
 use Rattle.script_text.specs.declared.fault.LineFault.{LineFault}
 use Rattle.script_text.specs.declared.fault.LineFault.TheVariants.{Bad, Memory}
-use Rattle.script_text.specs.Limits.{MOST_PIECES}
+use Rattle.vt_types.specs.Limits.{MOST_PIECES}
 use Rattle.script_text.specs.declared.post.Piece.{Piece}
 use Rattle.script_text.specs.declared.post.Piece.TheVariants as code
 use Rattle.script_text.specs.Post as spec

@@ -2,7 +2,7 @@ use Rattle.std.specs.Prelude.{ℕ, ◌&&◌, nat_le, List, [], ◌∷◌, ◌++�
 use Rattle.std.specs.Str.{bytes_eq}
 use Rattle.std.specs.List.{flat_map, list_all}
 use Rattle.vt_types.specs.Operation.{PostedBuffer}
-use Rattle.script_text.specs.Limits.{MOST_PIECES, LONGEST_PIECE}
+use Rattle.vt_types.specs.Limits.{MOST_PIECES, LONGEST_PIECE}
 use Rattle.script_text.specs.Words.{begins_with}
 use Rattle.script_text.specs.Reading.{Reading, gives_if, ◌>>=◌, optional_word}
 use Rattle.script_text.specs.Fields.{number16, bytes_in, decimal_in}

@@ -1,5 +1,6 @@
 use Rattle.std.specs.Prelude.{ℕ, List, [], ◌∷◌, codes}
-use Rattle.vt_types.specs.Access.{AccessValue, Load, Store, Put, Get, Zero, Swap, CfgLoad, CfgStore, Ssch, Tsch, Stsch, Msch, Csch, TurnOf, Diag, LONGEST_ACCESS}
+use Rattle.vt_types.specs.Access.{AccessValue, Load, Store, Put, Get, Zero, Swap, CfgLoad, CfgStore, Ssch, Tsch, Stsch, Msch, Csch, TurnOf, Diag}
+use Rattle.vt_types.specs.Limits.{LONGEST_BUFFER}
 use Rattle.script_text.specs.Reading.{Reading, gives, ◌>>=◌, one_word, named}
 use Rattle.script_text.specs.Fields.{decimal, hexadecimal, hex_bytes, width_in}
 
@@ -51,13 +52,13 @@ cfgstore = do
 abbrev pub put : Reading AccessValue
 put = do
   addr ← digits16
-  bytes ← hex_bytes LONGEST_ACCESS
+  bytes ← hex_bytes LONGEST_BUFFER
   gives (Put addr bytes)
 
 abbrev pub get : Reading AccessValue
 get = do
   addr ← digits16
-  count ← decimal 1 LONGEST_ACCESS
+  count ← decimal 1 LONGEST_BUFFER
   gives (Get addr count)
 
 abbrev pub zero_range : Reading AccessValue

@@ -3,7 +3,8 @@ use Rattle.vt_outside.specs.Source.{SourceView}
 use Rattle.vt_outside.specs.Faults.{Rose}
 use Rattle.script_text.specs.declared.reader.NextFault.{NextFault}
 use Rattle.script_text.specs.declared.reader.NextFault.TheVariants.{Read, TooLong, Long, Memory}
-use Rattle.script_text.specs.Limits.{LONGEST_LINE, LONGEST_SCRIPT}
+use Rattle.vt_types.specs.Limits.{LONGEST_SCRIPT}
+use Rattle.script_text.specs.Limits.{LONGEST_LINE}
 use Rattle.script_text.specs.Lines.{ReaderView}
 
 -- a reader that lends no line

@@ -4,14 +4,13 @@ ghost use Rattle.std.specs.Prelude.{◌≡◌, IfOk};
 ghost use Rattle.vt_types.specs.Events.{MOST_EVENTS};
 ghost use Rattle.script_text.specs.Reading.{Reads, Spells};
 ghost use Rattle.script_text.specs.Event as spec;
-ghost use Rattle.script_text.specs.Within.{IsEventWithin, AreEventsWithin};
+ghost use Rattle.vt_types.specs.Within.{IsEventWithin, AreEventsWithin};
 
 use crate::fault::LineFault;
 use crate::fields::decimal;
 use crate::words::{Words, find_byte, is};
-use crate::{LONGEST_FRAME, LONGEST_KEYS};
 use std::alloc::Global;
-use vt_types::{Event, EventAt, Events, MOST_EVENTS};
+use vt_types::{Event, EventAt, Events, LONGEST_FRAME, LONGEST_KEYS, MOST_EVENTS};
 
 /// The event whose first word is this: a device serves a queue, a frame or keys come, the disk, the link or the console
 /// changes, or a call of the disk will fail.
@@ -74,7 +73,7 @@ fn event_at(alloc: Global, words: &mut Words<'_>) -> Result<EventAt, LineFault>
     Ok(EventAt { gap, event })
 }
 
-/// The events to the end of an operation line: at most 128, and their gaps never fall.
+/// The events to the end of an operation line: at most `MOST_EVENTS`, and their gaps never fall.
 pub(crate) fn events(alloc: Global, words: &mut Words<'_>) -> Result<Events, LineFault>
     ensures value { Spells (λ e. e) result (spec.events_from MOST_EVENTS 0 words.old) }
     ensures within { IfOk result AreEventsWithin }

@@ -2,6 +2,7 @@
 
 ghost use Rattle.std.specs.Prelude.{◌≡◌, ◌≤◌, length, map, IsTrue, IfOk, IfSome};
 ghost use Rattle.vt_types.specs.Access.{is_width};
+ghost use Rattle.vt_types.specs.Limits.{LONGEST_BUFFER};
 ghost use Rattle.script_text.specs.Reading as spec;
 ghost use Rattle.script_text.specs.Reading.{Spells};
 ghost use Rattle.script_text.specs.Fields as field;
@@ -81,7 +82,7 @@ fn width(word: &[u8]) -> Option<u8>
 
 /// From 1 to `most` bytes in hexadecimal.
 pub(crate) fn hex_bytes(alloc: Global, word: &[u8], most: usize) -> Result<Bytes, LineFault>
-    requires { most ≤ 8192 }
+    requires { most ≤ LONGEST_BUFFER }
     ensures value { Spells (λ bytes. bytes) result (field.bytes_in most word.now) }
     ensures few { IfOk result (λ bytes. (1 ≤ length bytes) × (length bytes ≤ most)) }
 {
@@ -190,6 +191,7 @@ fn found<T>(value: Option<T>) -> Result<T, LineFault>
 impl<'a> Words<'a> {
     ghost use Rattle.std.specs.Prelude.{◌≡◌, ◌≤◌, ◌-◌, ◌^◌, length, IsTrue, IfOk};
     ghost use Rattle.vt_types.specs.Access.{is_width};
+    ghost use Rattle.vt_types.specs.Limits.{LONGEST_BUFFER};
     ghost use Rattle.script_text.specs.Reading.{Reads, one_word};
     ghost use Rattle.script_text.specs.Fields as field;
 
@@ -278,7 +280,7 @@ impl<'a> Words<'a> {
 
     /// From 1 to `most` bytes in hexadecimal.
     pub(crate) fn hex_bytes(&mut self, alloc: Global, most: usize) -> Result<Bytes, LineFault>
-        requires { most ≤ 8192 }
+        requires { most ≤ LONGEST_BUFFER }
         ensures value { Reads (λ bytes. bytes) result self.new (field.hex_bytes most self.old) }
         ensures few { IfOk result (λ bytes. (1 ≤ length bytes) × (length bytes ≤ most)) }
     {

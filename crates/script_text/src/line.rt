@@ -5,7 +5,8 @@ ghost use Rattle.script_text.specs.Reading.{Spells, to_the_end};
 ghost use Rattle.script_text.specs.Event as spec;
 ghost use Rattle.script_text.specs.Line.{form_of, line_value, script_line};
 ghost use Rattle.script_text.specs.Form.{form_value};
-ghost use Rattle.script_text.specs.Within.{IsEventWithin, IsLineWithin};
+ghost use Rattle.vt_types.specs.Within.{IsEventWithin};
+ghost use Rattle.script_text.specs.Within.{IsLineWithin};
 
 use crate::LONGEST_LINE;
 use crate::event::{event, events};

@@ -4,7 +4,7 @@ ghost use Rattle.std.specs.Prelude.{IfOk};
 ghost use Rattle.vt_types.specs.Operation.{operation};
 ghost use Rattle.script_text.specs.Reading.{Reads};
 ghost use Rattle.script_text.specs.Operation as spec;
-ghost use Rattle.script_text.specs.Within.{IsOperationWithin};
+ghost use Rattle.vt_types.specs.Within.{IsOperationWithin};
 
 use crate::fault::LineFault;
 use crate::post::buffer;

@@ -5,15 +5,14 @@ ghost use Rattle.vt_types.specs.Operation.{posted_buffer};
 ghost use Rattle.script_text.specs.Reading.{Reads, Spells};
 ghost use Rattle.script_text.specs.Post as spec;
 ghost use Rattle.script_text.specs.Pieces.{piece_value, Adds};
-ghost use Rattle.script_text.specs.Within.{IsPieceWithin, IsBufferWithin};
+ghost use Rattle.vt_types.specs.Within.{IsPieceWithin, IsBufferWithin};
 
 use crate::fault::LineFault;
 use crate::fields::{decimal, hex_bytes};
 use crate::words::Words;
-use crate::{LONGEST_PIECE, MOST_PIECES};
 use arrayvec::ArrayVec;
 use std::alloc::Global;
-use vt_types::{Bytes, PostBuf};
+use vt_types::{Bytes, LONGEST_PIECE, MOST_PIECES, PostBuf};
 
 /// A piece of a buffer: bytes that the device reads, or so many bytes for it to write.
 #[derive(Drop)]
@@ -22,7 +21,7 @@ pub(crate) enum Piece {
     Writable(u16),
 }
 
-/// A piece: `r:` and 1 to 4,096 bytes in hexadecimal, or `w:` and a number from 1 to 4096.
+/// A piece: `r:` and 1 to `LONGEST_PIECE` bytes in hexadecimal, or `w:` and a number from 1 to `LONGEST_PIECE`.
 fn piece_in(alloc: Global, word: &[u8]) -> Result<Piece, LineFault>
     ensures value { Spells piece_value result (spec.piece_in word.now) }
     ensures within { IfOk result (λ piece. IsPieceWithin (spec.piece_length (piece_value piece))) }
@@ -40,7 +39,7 @@ fn piece_in(alloc: Global, word: &[u8]) -> Result<Piece, LineFault>
     Err(LineFault::Bad)
 }
 
-/// Adds a piece at the end of a buffer: `Bad` where it has 8 pieces, or where a readable piece would come after a
+/// Adds a piece at the end of a buffer: `Bad` where it has `MOST_PIECES`, or where a readable piece would come after a
 /// writable one.
 fn add(alloc: Global, posted: &mut PostBuf, piece: Piece) -> Result<(), LineFault>
     requires { spec.piece_length (piece_value piece) ≤ LONGEST_PIECE }
@@ -90,7 +89,7 @@ fn pieces(
     Ok(posted)
 }
 
-/// The buffer of a line: its tag, `ind` where it asks for an indirect table, and 1 to 8 pieces.
+/// The buffer of a line: its tag, `ind` where it asks for an indirect table, and 1 to `MOST_PIECES` pieces.
 pub(crate) fn buffer(alloc: Global, words: &mut Words<'_>) -> Result<PostBuf, LineFault>
     ensures value { Reads posted_buffer result words.new (spec.buffer words.old) }
     ensures within { IfOk result (λ buffer. IsBufferWithin (posted_buffer buffer)) }

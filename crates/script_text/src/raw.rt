@@ -11,7 +11,7 @@ use crate::fault::LineFault;
 use crate::line::{Form, event_alone, form_of};
 use crate::words::{Words, is};
 use std::alloc::Global;
-use vt_types::{Access, Bytes, Event, LONGEST_ACCESS};
+use vt_types::{Access, Bytes, Event, LONGEST_BUFFER};
 
 /// An access of a raw script, which owns its bytes.
 #[derive(Drop)]
@@ -133,7 +133,7 @@ fn put(alloc: Global, words: &mut Words<'_>) -> Result<RawAccess, LineFault>
     ensures limits { IfOk result (λ a. IsWithinLimits (raw_access a)) }
 {
     let addr = digits16(words)?;
-    let bytes = words.hex_bytes(alloc, LONGEST_ACCESS)?;
+    let bytes = words.hex_bytes(alloc, LONGEST_BUFFER)?;
     Ok(RawAccess::Put { addr, bytes })
 }
 
@@ -143,7 +143,7 @@ fn get(words: &mut Words<'_>) -> Result<Access<'static>, LineFault>
     ensures limits { IfOk result (λ a. IsWithinLimits (access_value a)) }
 {
     let addr = digits16(words)?;
-    let count = words.decimal(1, LONGEST_ACCESS as u64)? as u16;
+    let count = words.decimal(1, LONGEST_BUFFER as u64)? as u16;
     Ok(Access::Get { addr, count })
 }
 

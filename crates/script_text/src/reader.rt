@@ -1,11 +1,11 @@
 //! The lines of a source.
 
+use crate::LONGEST_LINE;
 use crate::words::find_byte;
-use crate::{LONGEST_LINE, LONGEST_SCRIPT};
 use std::alloc::Global;
 use std::marker::Model;
 use vt_outside::{Failed, Source};
-use vt_types::Memory;
+use vt_types::{LONGEST_SCRIPT, Memory};
 
 /// The most bytes that one read takes from a source.
 const READ_LEN: usize = 4096;
@@ -33,14 +33,15 @@ pub struct LineReader {
 }
 
 impl Model for LineReader {
-    ghost use Rattle.std.specs.Prelude.{◌≤◌, ◌+◌, ◌^◌, drop, take, length};
+    ghost use Rattle.std.specs.Prelude.{◌≤◌, ◌+◌, drop, take, length};
+    ghost use Rattle.vt_types.specs.Limits.{LONGEST_SCRIPT};
     ghost use Rattle.script_text.specs.Lines.{ReaderView};
 
     ghost Value = { ReaderView };
 
     ghost view = { λ r. record { held = drop r.start r.bytes.items; answered = r.answered; number = r.number; ended = r.ended; line = take r.line_len (drop r.line_start r.bytes.items) } };
 
-    ghost invariant = { λ r. (r.start ≤ length r.bytes.items) × (r.line_start + r.line_len ≤ length r.bytes.items) × (r.answered ≤ 2 ^ 26) × (r.number ≤ r.answered) × (r.answered + length r.bytes.items ≤ r.start + (2 ^ 26 + 1)) };
+    ghost invariant = { λ r. (r.start ≤ length r.bytes.items) × (r.line_start + r.line_len ≤ length r.bytes.items) × (r.answered ≤ LONGEST_SCRIPT) × (r.number ≤ r.answered) × (r.answered + length r.bytes.items ≤ r.start + (LONGEST_SCRIPT + 1)) };
 }
 
 impl LineReader {
@@ -48,7 +49,7 @@ impl LineReader {
     ghost use Rattle.std.specs.List.{position};
     ghost use Rattle.script_text.specs.Lines.{bytes_taken, Answers, Takes, KnowsEnd, FaultsOf, Numbers};
     ghost use Rattle.script_text.specs.Reader.{without_line, AnswersLine, AnswersRest, ReadsMore};
-    ghost use Rattle.script_text.specs.Limits as limit;
+    ghost use Rattle.vt_types.specs.Limits as limit;
 
     /// A reader that has answered no line.
     pub fn new(alloc: Global) -> Result<LineReader, Memory>
@@ -75,11 +76,11 @@ impl LineReader {
     /// The next line of a script, which `line` lends then: its number, counted from 1, or None where the input has ended
     /// and no line is left. A line ends at its line feed, or at the end of the input.
     ///
-    /// `TooLong` comes exactly where the next line does not end within the first 2^26 bytes of the script, its line feed
+    /// `TooLong` comes exactly where the next line does not end within the first `LONGEST_SCRIPT` bytes of the script, its line feed
     /// among them, and more bytes came; `Long` where it ends there and has more than `LONGEST_LINE` bytes. `Read` comes
     /// where the source failed. After None or a fault the input stays: the bytes held, followed by those that the source
     /// has left, are as before, and a later call goes on from there. A source that has ended is read no more, and none is
-    /// read where the bytes held have a line feed. All calls together take at most the first 2^26 + 1 bytes of a source.
+    /// read where the bytes held have a line feed. All calls together take at most the first `LONGEST_SCRIPT` + 1 bytes of a source.
     pub fn next_line<S: Source>(
         &mut self,
         alloc: Global,

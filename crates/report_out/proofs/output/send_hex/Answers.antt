@@ -7,14 +7,14 @@ use Rattle.report_out.proofs.DigitLaws.{digits_front, digits_none}
 use Rattle.report_out.proofs.output.send_hex.Goals as goal
 
 pub pieces-init : goal.pieces-init
-pieces-init g c = record { bound = omega arith; room = omega arith; sends = rw digits_none (sends_none (g.K.Sink.view c.args.sink.now)) }
+pieces-init g c = record { bound = omega arith; spare = omega arith; sends = rw digits_none (sends_none (g.K.Sink.view c.args.sink.now)) }
 
 pub pieces-preserved : goal.pieces-preserved
 pieces-preserved g c =
     let n : c.pieces.at + c.min-count.result - c.pieces.at ≡ c.min-count.result = omega arith in
     record {
       bound = omega arith;
-      room = c.in-Ok.ensures.room;
+      spare = c.in-Ok.ensures.spare;
       sends =
           rw (← take_then c.pieces.at c.min-count.result c.args.bytes.now, encode-append)
           (sends_then _ _ _ _ _ _ c.pieces.invariant.sends (rw n at c.in-Ok.ensures.sends));

@@ -7,7 +7,7 @@ use Rattle.report_out.proofs.output.send_hex.Given as goal
 abbrev pub invariant-pieces : goal.invariant-pieces
 invariant-pieces g l = record {
   bound : l.at ≤ length l.bytes;
-  room : 33024 ≤ l.text.room + length l.text.bytes;
+  spare : 33024 ≤ l.text.spare + length l.text.bytes;
   sends : Sends (g.K.Sink.view l.fn.sink) (g.K.Sink.view l.sink) (encode_lower (take l.at l.bytes)) (Ok tt);
 }
 

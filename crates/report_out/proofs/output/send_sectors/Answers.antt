@@ -5,7 +5,7 @@ use Rattle.report_out.proofs.SendLaws.{disk_as, disk_front, disk_then, disk_unas
 use Rattle.report_out.proofs.output.send_sectors.Goals as goal
 
 pub sectors-init : goal.sectors-init
-sectors-init g c = record { room = c.requires.room; sends = disk_unasked [] _ _ _ _ (sends_none (g.K.Sink.view c.args.sink.now)) }
+sectors-init g c = record { spare = c.requires.spare; sends = disk_unasked [] _ _ _ _ (sends_none (g.K.Sink.view c.args.sink.now)) }
 
 pub send_sector-requires-clause-whole : goal.send_sector-requires-clause-whole
 send_sector-requires-clause-whole g c = whole_then _ _ c.sectors.invariant.sends.disk c.requires.whole
@@ -19,7 +19,7 @@ returns-in-Err-clause-sends g c =
 
 pub sectors-preserved : goal.sectors-preserved
 sectors-preserved g c = record {
-  room = c.in-Ok.ensures.room;
+  spare = c.in-Ok.ensures.spare;
   sends =
       disk_as (λ image outcomes. lines_below c.sectors.n image outcomes ++ line_of_sector c.sectors.n image (drop c.sectors.n outcomes)) (lines_below (c.sectors.n + 1)) (c.sectors.n + 1) (c.sectors.n + 1) _ _ _ _ _
       refl

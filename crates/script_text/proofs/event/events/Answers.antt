@@ -3,7 +3,7 @@ use Rattle.std.proofs.lemmas.Result.{err_from_is_err_and}
 use Rattle.vt_types.specs.declared.operation.EventAt.{EventAt}
 use Rattle.vt_types.specs.Events.{last_gap}
 use Rattle.script_text.specs.Event.{events_from}
-use Rattle.script_text.specs.Within.{IsEventWithin}
+use Rattle.vt_types.specs.Within.{IsEventWithin}
 use Rattle.script_text.proofs.EventLaws.{front_end, front_full, front_fault, front_falls, front_more, no_front}
 use Rattle.script_text.proofs.BoundLaws.{all_none, all_more}
 use Rattle.script_text.proofs.event.events.Goals as goal

@@ -1,6 +1,6 @@
 use Rattle.std.proofs.Common.{◌≡◌, ◌-◌, length}
 use Rattle.vt_types.specs.Events.{MOST_EVENTS}
-use Rattle.script_text.specs.Within.{AreEventsWithin}
+use Rattle.vt_types.specs.Within.{AreEventsWithin}
 use Rattle.script_text.specs.Event.{events_from}
 use Rattle.script_text.proofs.EventLaws.{with_front}
 use Rattle.script_text.proofs.event.events.Given as goal

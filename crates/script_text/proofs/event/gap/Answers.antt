@@ -17,6 +17,6 @@ pub returns : goal.returns
 returns c =
     let h = (c.in_ok-behind.ensures).cases in
     let behind : List ℕ = c.in_ok-behind.behind.now in
-    let place : ℕ = c.in_ok-colon.colon in
-    let is = some_gap c.args.word.now behind place c.in_ok-gap.gap h.0 h.1 (sym c.find_byte.ensures.value ∙ c.in_ok-colon.was) (sym c.decimal.ensures.value ∙ c.in_ok-gap.was) in
-    sym (is ∙ ap (λ (name : List ℕ). Some (c.in_ok-gap.gap, name)) (sym (take_rest behind (place + 1))))
+    let location : ℕ = c.in_ok-colon.colon in
+    let is = some_gap c.args.word.now behind location c.in_ok-gap.gap h.0 h.1 (sym c.find_byte.ensures.value ∙ c.in_ok-colon.was) (sym c.decimal.ensures.value ∙ c.in_ok-gap.was) in
+    sym (is ∙ ap (λ (name : List ℕ). Some (c.in_ok-gap.gap, name)) (sym (take_rest behind (location + 1))))

@@ -1,7 +1,7 @@
 use Rattle.std.proofs.Common.{length}
 use Rattle.std.specs.Prelude.{All}
 use Rattle.vt_types.specs.Operation.{posted_buffer}
-use Rattle.script_text.specs.Within.{IsPieceWithin}
+use Rattle.vt_types.specs.Within.{IsPieceWithin}
 use Rattle.script_text.proofs.PostLaws.{Seen}
 use Rattle.script_text.proofs.post.pieces.Given as goal
 

@@ -7,5 +7,5 @@ numbers-preserved c = record {
   added =
       rw (numbers_more c.args.all.now c.numbers.n-index (omega arith))
       (added_then _ _ _ _ _ c.numbers.invariant.added c.number_word.ensures.added);
-  room = omega arith;
+  spare = omega arith;
 }

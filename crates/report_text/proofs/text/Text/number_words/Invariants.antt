@@ -6,5 +6,5 @@ use Rattle.report_text.proofs.text.Text.number_words.Given as goal
 abbrev pub invariant-numbers : goal.invariant-numbers
 invariant-numbers l = record {
   added : Added l.fn.self l.self (numbers (take l.n-index l.all));
-  room : l.fn.self.room ≤ l.self.room + 24 * l.n-index;
+  spare : l.fn.self.spare ≤ l.self.spare + 24 * l.n-index;
 }

@@ -1,0 +1,6 @@
+use Rattle.std.proofs.Common.{arith}
+use Rattle.report_text.proofs.HexNumber.{length-hex_number-le}
+use Rattle.report_text.proofs.lengths.offset_is_short.Goals as goal
+
+pub returns : goal.returns
+returns c = length-hex_number-le 2 c.args.n (omega arith) (omega arith)
