@@ -1,0 +1,5 @@
+pub mod EventLaws
+pub mod LineLaws
+pub mod HappenLaws
+pub mod StepLaws
+pub mod TraceLaws
