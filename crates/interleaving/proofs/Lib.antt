@@ -1,0 +1,11 @@
+pub mod Placed
+pub mod Agreement
+pub mod KeptLaws
+pub mod AccessRules
+pub mod MarkRules
+pub mod ProgramRules
+pub mod RefusalRules
+pub mod StepLaws
+pub mod MemoryRules
+pub mod FreePutRules
+pub mod QueueRules

@@ -1,0 +1,8 @@
+//! How the console over MMIO and its driver stand to the abstract console, operation by operation and event by event.
+#![tactic(auto)]
+
+mod simulation;
+#[cfg(test)]
+mod tests;
+
+pub use simulation::MmioSimulation;

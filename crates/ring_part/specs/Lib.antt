@@ -1,0 +1,5 @@
+pub mod Held
+pub mod RingPuts
+pub mod RingPart
+pub mod Locations
+pub mod Laws
