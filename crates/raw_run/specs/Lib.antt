@@ -1,2 +1,1 @@
-pub mod RawReport
-pub mod Run
+pub mod RawScript

@@ -3,7 +3,6 @@
 
 mod line;
 mod run;
-mod runner;
 #[cfg(test)]
 mod tests;
 

@@ -1,31 +1,20 @@
-//! One line of a raw script.
+//! The lines of a raw script.
 
-ghost use Rattle.std.specs.Prelude.{◌≡◌, ◌+◌, ◌++◌, ◌≤◌, [], length};
+ghost use Rattle.std.specs.Prelude.{◌≡◌, ◌+◌, ◌++◌, ◌≤◌, length};
 ghost use Rattle.vt_types.specs.Access.{access_value, access_cost, IsWithinLimits};
 ghost use Rattle.report_text.specs.Access.{raw_line};
+ghost use Rattle.report_text.specs.Text as spec;
 ghost use Rattle.dev_core.specs.Bus.{raw_access};
-ghost use Rattle.raw_run.specs.RawReport.{is_event_there};
-ghost use Rattle.raw_run.specs.Run.{RunsLine};
 
-use dev_core::Bus;
+use dev_core::{Bus, is_event_there};
+use line_runner::LineRunner;
 use report_out::Stop;
-use report_text::{LINE_ROOM, Text};
+use report_text::{LINE_SPARE, Text};
 use script_text::{LineFault, RawLine, parse_raw};
 use std::alloc::Global;
-use vt_machine::Machine;
-use vt_outside::Disk;
-use vt_types::{Access, Dev, Event, Room};
-
-/// Whether an event is of a device that is there: of the console.
-fn is_event_there(e: &Event) -> bool
-    ensures { result ≡ is_event_there e.now }
-{
-    match e {
-        Event::Serve { dev, .. } => *dev == Dev::Con,
-        Event::Key(_) | Event::Consize { .. } => true,
-        Event::Frame(_) | Event::Resize(_) | Event::Link(_) | Event::Diskfail(_) => false,
-    }
-}
+use vt_machine::RawMachine;
+use vt_outside::{Back, Disk};
+use vt_types::{Access, Room};
 
 /// What an access costs at most: the pages of the longest range that is filled with zeros.
 const MOST_COST: u32 = 17;
@@ -44,17 +33,17 @@ fn costs_little(a: &Access<'_>)
 fn run_access<B: Bus, D: Disk>(
     number: u32,
     a: &Access<'_>,
-    machine: &mut Machine<B, D>,
+    machine: &mut RawMachine<B, D>,
     room: &mut Room,
     text: &mut Text,
 )
     requires limits { IsWithinLimits (access_value a.now) }
     requires console { MOST_COST ≤ machine.old.spare }
     requires pages { MOST_COST ≤ machine.old.pages }
-    requires room { LINE_ROOM ≤ text.old.room }
+    requires spare { LINE_SPARE ≤ text.old.spare }
     ensures raw { machine.new.raw ≡ (raw_access B.table (access_value a.now) machine.old.raw).2 }
     ensures text { text.new.bytes ≡ text.old.bytes ++ raw_line number (access_value a.now) (raw_access B.table (access_value a.now) machine.old.raw).0 (raw_access B.table (access_value a.now) machine.old.raw).1 }
-    ensures room { text.old.room + length text.old.bytes ≤ text.new.room + length text.new.bytes }
+    ensures spare { text.old.spare + length text.old.bytes ≤ text.new.spare + length text.new.bytes }
     ensures disk { machine.new.disk ≡ machine.old.disk }
 {
     costs_little(a);
@@ -62,39 +51,105 @@ fn run_access<B: Bus, D: Disk>(
     text.raw(number, a, &answer, room);
 }
 
-/// Runs a line, the `number`-th of its script, and puts what it prints in place of the text. False, and nothing happens,
-/// where the line is not in the grammar.
-pub fn run_line<B: Bus, D: Disk>(
-    alloc: Global,
-    number: u32,
-    line: &[u8],
-    machine: &mut Machine<B, D>,
-    room: &mut Room,
-    text: &mut Text,
-) -> Result<bool, Stop>
-    requires { LINE_ROOM ≤ text.old.room + length text.old.bytes }
-    ensures runs { RunsLine B.table number line.now machine.old.raw machine.new.raw text.new.bytes result }
-    ensures room { LINE_ROOM ≤ text.new.room + length text.new.bytes }
-    ensures disk { machine.new.disk ≡ machine.old.disk }
-{
-    text.clear();
-    if machine.reserve(alloc).is_err() {
-        return Err(Stop::Memory);
+/// The machine that the lines of a raw script are run on, the room of an access, and what the last line printed.
+#[derive(Drop)]
+pub struct RawLines<B: Bus, D: Disk> {
+    machine: RawMachine<B, D>,
+    room: Room,
+    text: Text,
+    ghost spare: { spec.LINE_SPARE ≤ text.spare + length text.bytes },
+}
+
+impl<B: Bus + Drop, D: Disk> RawLines<B, D> {
+    ghost use Rattle.std.specs.Prelude.{◌≡◌, IfOk, IfErr};
+    ghost use Rattle.dev_core.specs.Bus.{new_raw};
+
+    /// A new machine over a disk, before the first line. Where there is no memory the disk comes back.
+    pub fn new(alloc: Global, disk: D) -> Result<RawLines<B, D>, Back<D>>
+        ensures raw { IfOk result (λ l. l.machine.raw ≡ new_raw B.table) }
+        ensures disk { IfOk result (λ l. l.machine.disk.disk ≡ D.view disk) }
+        ensures err { IfErr result (λ b. b.disk ≡ disk) }
+    {
+        let Ok(text) = Text::new(alloc) else {
+            return Err(Back { disk });
+        };
+        let machine = RawMachine::new(alloc, B::new(), disk)?;
+        Ok(RawLines {
+            machine,
+            room: Room::new(),
+            text,
+        })
     }
-    match parse_raw(alloc, line) {
-        Ok(RawLine::Blank) => Ok(true),
-        Ok(RawLine::Access(access)) => {
-            run_access(number, &access.access(), machine, room, text);
-            Ok(true)
+}
+
+impl<B: Bus + Drop, D: Disk> LineRunner for RawLines<B, D> {
+    ghost use Rattle.std.specs.Prelude.{◌≡◌, []};
+    ghost use Rattle.dev_core.specs.Bus.{Raw};
+    ghost use Rattle.raw_run.specs.RawScript.{raw_script};
+
+    type Disk = D;
+
+    ghost State = { Raw B };
+
+    ghost script = { raw_script B.table };
+
+    ghost stands = { λ l raw. l.machine.raw ≡ raw };
+
+    ghost traced = { λ _. [] };
+
+    ghost printed = { λ l. l.text.bytes };
+
+    ghost under = { λ l. l.machine.disk.disk };
+
+    fn refuses_long_lines() {}
+
+    fn run_line(&mut self, alloc: Global, number: u32, line: &[u8]) -> Result<bool, Stop> {
+        self.text.clear();
+        if self.machine.reserve(alloc).is_err() {
+            return Err(Stop::Memory);
         }
-        Ok(RawLine::Event(event)) => {
-            let there = is_event_there(&event);
-            if there {
-                machine.event(&event);
+        match parse_raw(alloc, line) {
+            Ok(RawLine::Blank) => Ok(true),
+            Ok(RawLine::Access(access)) => {
+                run_access(
+                    number,
+                    &access.access(),
+                    &mut self.machine,
+                    &mut self.room,
+                    &mut self.text,
+                );
+                Ok(true)
             }
-            Ok(there)
+            Ok(RawLine::Event(event)) => {
+                let there = is_event_there(&event);
+                if there {
+                    self.machine.event(&event);
+                }
+                Ok(there)
+            }
+            Err(LineFault::Bad) => Ok(false),
+            Err(LineFault::Memory) => Err(Stop::Memory),
         }
-        Err(LineFault::Bad) => Ok(false),
-        Err(LineFault::Memory) => Err(Stop::Memory),
+    }
+
+    fn trace(&self) -> &[u8] {
+        &[]
+    }
+
+    fn text(&self) -> &[u8] {
+        self.text.bytes()
+    }
+
+    fn console(&self) -> &[u8] {
+        self.machine.console()
+    }
+
+    fn into_disk(self) -> D {
+        let RawLines {
+            machine,
+            room: _,
+            text: _,
+        } = self;
+        machine.into_disk()
     }
 }

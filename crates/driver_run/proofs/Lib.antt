@@ -1,0 +1,3 @@
+pub mod SentLaws
+pub mod OperationLaws
+pub mod RunLaws

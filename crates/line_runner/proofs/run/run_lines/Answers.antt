@@ -1,0 +1,5 @@
+use Rattle.line_runner.proofs.EndLaws.{reports_none}
+use Rattle.line_runner.proofs.run.run_lines.Goals as goal
+
+pub returns-in-Err-clause-reports : goal.returns-in-Err-clause-reports
+returns-in-Err-clause-reports g c = rw (c.status.ensures, c.into_disk.ensures, c.in-Err.ensures.err) (reports_none _ _ _ _ _)

@@ -1,0 +1,11 @@
+//! The lines of a script, run one after the other, and the report of what they did (our own).
+#![tactic(auto)]
+
+mod line_runner;
+mod run;
+mod runner;
+#[cfg(test)]
+mod tests;
+
+pub use line_runner::LineRunner;
+pub use run::run_lines;
