@@ -1,39 +1,44 @@
-use Rattle.std.specs.Prelude.{ℕ, ◌&&◌, List, [], ◌∷◌, Bool, false, Option, Some, None, codes, if◌then◌else◌}
+use Rattle.std.specs.Prelude.{◌≡◌, ℕ, ◌&&◌, List, [], ◌∷◌, Bool, true, false, Option, Some, None, codes, if◌then◌else◌}
 use Rattle.std.specs.Str.{bytes_eq}
-use Rattle.vt_types.specs.declared.device.BusKind.{BusKind}
-use Rattle.vt_types.specs.declared.device.BusKind.TheVariants.{Mmio}
-use Rattle.script_text.specs.Lines.{lines_of}
-use Rattle.report_out.specs.Answers.{Reporting}
+use Rattle.vt_outside.specs.Source.{SourceView}
 use Rattle.mmio_regs.specs.MmioTable.{mmio_table}
-use Rattle.raw_run.specs.RawReport.{raw_report_of, status_of_lines}
-use Rattle.script_run.specs.Report.{report_of}
-use Rattle.script_run.specs.Script.{script_of, status_at_end}
+use Rattle.report_out.specs.Answers.{Reporting}
+use Rattle.line_runner.specs.Script as script
+use Rattle.line_runner.specs.Shows.{ShowsOn}
+use Rattle.raw_run.specs.RawScript.{raw_script}
+use Rattle.mmio_simulation.specs.Bus.{mmio}
+use Rattle.driver_run.specs.DrivenScript.{driven_script}
+use Rattle.script_run.specs.declared.command.Command.{Command}
+use Rattle.script_run.specs.declared.command.Command.TheVariants.{Run, Raw}
 
--- what the words of a call ask for
-pub data Command : Type 0 where
-  -- to run a script on a bus
-  RunScript : BusKind → Command
-  -- to run a raw script, on MMIO: no other bus is there yet
-  RunRaw : Command
-
--- whether words are these two
-abbrev pub are_words : List ℕ → List ℕ → List (List ℕ) → Bool
-are_words first second [] = false
-are_words first second (word ∷ []) = false
-are_words first second (word ∷ next ∷ []) = bytes_eq word first && bytes_eq next second
-are_words first second (word ∷ next ∷ more ∷ words) = false
+-- whether words are these names, one after the other
+abbrev pub are_words : List (List ℕ) → List (List ℕ) → Bool
+are_words [] [] = true
+are_words [] (name ∷ names) = false
+are_words (word ∷ words) [] = false
+are_words (word ∷ words) (name ∷ names) = bytes_eq word name && are_words words names
 
 -- the command that words are; None where they are not in the grammar, as all words but these today
 abbrev pub command_of : List (List ℕ) → Option Command
 command_of words =
-    if are_words (codes "run") (codes "mmio") words then Some (RunScript Mmio) else (if are_words (codes "raw") (codes "mmio") words then Some RunRaw else None)
+    if are_words words (codes "run" ∷ codes "mmio" ∷ []) then Some (Run false)
+    else (if are_words words (codes "run" ∷ codes "mmio" ∷ codes "trace" ∷ []) then Some (Run true)
+    else (if are_words words (codes "raw" ∷ codes "mmio" ∷ []) then Some Raw
+    else None))
 
 -- what a command reports on an input
 abbrev pub reporting : Command → Reporting
-reporting (RunScript bus) = λ input sectors read_only readings. report_of bus input (record { sectors = sectors; read_only = read_only }) readings
-reporting RunRaw = λ input sectors read_only readings. raw_report_of mmio_table input sectors readings
+reporting (Run traces) = script.reporting (driven_script mmio) traces
+reporting Raw = script.reporting (raw_script mmio_table) false
 
 -- how an input ends for a command: with 0, 3 or 7
 abbrev pub ending : Command → List ℕ → ℕ
-ending (RunScript bus) = λ input. status_at_end (script_of input)
-ending RunRaw = λ input. status_of_lines (lines_of input)
+ending (Run traces) = script.ending (driven_script mmio)
+ending Raw = script.ending (raw_script mmio_table)
+
+-- what a watch was shown in a call that ended with a status: where a script is run, the lines of its traces, which stand in the
+-- report where they are asked for; else nothing
+abbrev pub Watches : Option Command → SourceView → Option (List ℕ) → Option (List ℕ) → ℕ → Type 0
+Watches (Some (Run traces)) s w w2 status = ShowsOn (driven_script mmio) traces s w w2 status
+Watches (Some Raw) s w w2 status = w2 ≡ w
+Watches None s w w2 status = w2 ≡ w

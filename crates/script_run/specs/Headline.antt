@@ -1,15 +1,13 @@
-use Rattle.std.specs.Prelude.{◌≡◌, ℕ, ◌⊎◌, List, Option, Some, None, codes}
+use Rattle.std.specs.Prelude.{◌≡◌, ℕ, ◌⊎◌, List, Option, Some, None}
 use Rattle.vt_outside.specs.Faults.{Rose}
 use Rattle.vt_outside.specs.Source.{SourceView}
 use Rattle.vt_outside.specs.Sink.{SinkView, Adds}
 use Rattle.vt_outside.specs.Disk.{DiskView}
 use Rattle.report_out.specs.Answers.{AnswersInput, Stopped, Written}
 use Rattle.report_out.specs.DiskCalls.{SameDisk}
-use Rattle.script_run.specs.Command.{Command, command_of, ending, reporting}
-
--- the usage line
-abbrev pub usage : List ℕ
-usage = codes "usage: vt run BUS [trace] [file NAME] | raw BUS [file NAME] | load BUS N\n"
+use Rattle.script_run.specs.Command.{Watches, command_of, ending, reporting}
+use Rattle.script_run.specs.Usage.{usage}
+use Rattle.script_run.specs.declared.command.Command.{Command}
 
 -- where the words are not in the grammar: the usage line; the source is as before
 pub record ShowsUsage (s s2 : SourceView) (d d2 : DiskView) (status : ℕ) (text : List ℕ) : Type 0 where
@@ -24,8 +22,8 @@ pub record Headline (words : List (List ℕ)) (s s2 : SourceView) (k k2 : SinkVi
   -- the bytes that were written
   pub text : List ℕ
   pub written : Adds k.written k2.written text
-  -- the watch is shown nothing yet
-  pub watch : w2 ≡ w
+  -- what the watch was shown, with and without the word `trace`
+  pub watch : Watches (command_of words) s w w2 status
   -- the disk that comes back has the image, the size and the read-only flag of the one that went in
   pub disk : SameDisk d d2
   pub known : Stopped status ⊎ ((status ≡ 0) ⊎ ((status ≡ 2) ⊎ ((status ≡ 3) ⊎ (status ≡ 7))))

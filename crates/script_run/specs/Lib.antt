@@ -1,15 +1,3 @@
 pub mod Command
-pub mod DriverCalls
 pub mod Headline
-pub mod Input
-pub mod Lowering
-pub mod Machine
-pub mod MmioTable
-pub mod RawServe
-pub mod RawState
-pub mod Report
-pub mod Run
-pub mod Script
-pub mod ScriptLine
-pub mod ServeSteps
-pub mod Trace
+pub mod Usage

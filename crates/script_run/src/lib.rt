@@ -1,12 +1,8 @@
-//! The top call: a script of driver operations and backend events, run on a bus, and its report.
+//! The top call: what the words of a call ask for, done from a source to a sink over a disk, with a watch that is shown what
+//! happens (our own).
 #![tactic(auto)]
 
-mod console_machine;
-mod console_page;
-mod drv_mmio;
-mod page_registers;
-mod pattern_text;
-mod run;
+mod command;
 #[cfg(test)]
 mod tests;
 mod top_call;

@@ -1,5 +1,5 @@
 //! The start of the program `vt`: what the words of its command line say, over standard input, standard output and a
-//! disk in memory.
+//! disk in memory. Nobody watches: the watch is `NoWatch`.
 #![tactic(auto)]
 
 use script_run::top;
@@ -34,7 +34,8 @@ fn words<R: Env + AllocGlobal>(rt: &R) -> Option<Vec<String>> {
 }
 
 /// Does all that a program over `top` does: takes the words after the program's name, reads standard input, writes
-/// standard output, and answers the status of `top`; 6 where there is no memory for the words or the disk.
+/// standard output, shows nobody what happens, and answers the status of `top`; 6 where there is no memory for the words
+/// or the disk.
 pub fn start<R: Env + Input + Print + AllocGlobal>(rt: &R) -> ExitCode {
     let Some(words) = words(rt) else {
         return ExitCode::from(NO_MEMORY);
