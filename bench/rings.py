@@ -18,7 +18,7 @@ import subprocess
 import sys
 import tempfile
 
-from rounds import TOP, built_program, peak, seconds
+from timing import TOP, built_program, peak, seconds
 
 RUNS = 9
 BUFFERS = 1_000_000
