@@ -15,7 +15,7 @@ import sys
 from timing import OPENING, built_program, file_of, peak, script, seconds
 
 RUNS = 5
-LINES = [10_000, 30_000, 100_000]
+LINES = [30_000, 100_000, 300_000]
 
 # The numbers of operations of a script on both queues, and its rounds: those without events in a gap have them on lines of
 # their own.
@@ -59,7 +59,7 @@ CASES = [
     ("irq config", OPENING, ["irq config con"]),
     ("irq config, changed before", OPENING, ["irq config con @0:consize 100 40"]),
     ("post and reap, 5 bytes sent", OPENING + ["notify con 1"], ["post con 1 1 r:68656c6c6f @4:serve con 1", "reap con 1"]),
-    ("post and reap, 512 bytes sent", OPENING + ["notify con 1"], ["post con 1 1 r:" + "5a" * 512 + " @4:serve con 1", "reap con 1"]),
+    ("post and reap, 128 bytes sent", OPENING + ["notify con 1"], ["post con 1 1 r:" + "5a" * 128 + " @4:serve con 1", "reap con 1"]),
     ("post and reap, 5 bytes received", OPENING + ["notify con 0"], ["post con 0 1 w:5 @0:key 68656c6c6f @3:serve con 0", "reap con 0"]),
 ]
 
