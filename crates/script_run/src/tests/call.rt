@@ -2,6 +2,7 @@
 
 use crate::top;
 use std::alloc::{AllocError, Global};
+use std::process::Abort;
 use std::str::from_utf8;
 use std::test::Fail;
 use vt_outside::{Failed, MemDisk, MemSink, MemSource, MemWatch, Sink};
@@ -128,40 +129,55 @@ impl Call<'_> {
         };
         Ok((outcome, ended.disk))
     }
+
+    /// Makes the call over a disk of 2,048 sectors of zeros: it writes this text, and ends with this status.
+    pub(crate) fn gives(
+        &self,
+        rt: &impl Abort,
+        alloc: Global,
+        text: &str,
+        status: u8,
+    ) -> Result<Outcome, AllocError> {
+        let outcome = self.make(alloc)?;
+        assert_eq!(rt; outcome.text(), text);
+        assert_eq!(rt; outcome.status, status);
+        Ok(outcome)
+    }
 }
 
-/// Words that are not in the grammar: the source is not read, and the watch is shown nothing.
+/// Lists of words that are not in the grammar.
+const OTHER_WORDS: &[&[&str]] = &[
+    &[],
+    &["run"],
+    &["mmio"],
+    &["run", "isa"],
+    &["run", "pci-intx"],
+    &["raw", "ccw-classic"],
+    &["load", "mmio", "1"],
+    &["check", "mmio"],
+    &["Run", "mmio"],
+    &["run", "MMIO"],
+    &["run", "mmi"],
+    &["run", "mmio", "-x"],
+    &["run", "mmio", ""],
+    &["run", "mmio", "traces"],
+    &["run", "trace", "mmio"],
+    &["run", "mmio", "trace", "trace"],
+    &["run", "mmio", "file", "disk"],
+    &["raw", "mmio", "trace"],
+    &["", "run", "mmio"],
+];
+
+/// The source is not read, and the watch is shown nothing, for words that are not in the grammar.
 #[test]
 fn other_words(rt: HostRuntime) -> Result<(), Fail> {
-    let none: &[&str] = &[];
-    for words in [
-        none,
-        &["run"],
-        &["mmio"],
-        &["run", "isa"],
-        &["run", "pci-intx"],
-        &["raw", "ccw-classic"],
-        &["load", "mmio", "1"],
-        &["check", "mmio"],
-        &["Run", "mmio"],
-        &["run", "MMIO"],
-        &["run", "mmi"],
-        &["run", "mmio", "-x"],
-        &["run", "mmio", ""],
-        &["run", "mmio", "traces"],
-        &["run", "trace", "mmio"],
-        &["run", "mmio", "trace", "trace"],
-        &["run", "mmio", "file", "disk"],
-        &["raw", "mmio", "trace"],
-        &["", "run", "mmio"],
-    ] {
+    for words in OTHER_WORDS {
         let call = Call {
             source_fails: &[1],
             ..with_words(words, "probe con\n")
         };
-        let outcome = call.make(rt.alloc())?;
-        assert_eq!(rt; outcome.text(), USAGE);
-        assert_eq!(rt; (outcome.status, outcome.shown()), (2, Some("")));
+        let outcome = call.gives(&rt, rt.alloc(), USAGE, 2)?;
+        assert_eq!(rt; outcome.shown(), Some(""));
     }
     Ok(())
 }
@@ -173,36 +189,46 @@ fn other_words_to_a_failing_sink(rt: HostRuntime) -> Result<(), Fail> {
         sink_fails: &[1],
         ..with_words(&["run", "isa"], "")
     };
-    let outcome = call.make(rt.alloc())?;
-    assert_eq!(rt; outcome.text(), "");
-    assert_eq!(rt; (outcome.status, outcome.failed), (5, 1));
+    let outcome = call.gives(&rt, rt.alloc(), "", 5)?;
+    assert_eq!(rt; outcome.failed, 1);
     Ok(())
 }
 
-/// The words that are in the grammar, each on a script that the others answer otherwise.
+/// The lists of words that are in the grammar, each with a script, its report and its status: what one runs is no script of
+/// the others.
+const WORDS: &[(&[&str], &str, &str, u8)] = &[
+    (
+        &["run", "mmio"],
+        "probe con\nreset con\n",
+        "1 id 3 p=0 n=4\n2 ok p=0 n=2\nframes 0\nconsole -\ndisk 2048\nend\n",
+        0,
+    ),
+    (
+        &["run", "mmio", "trace"],
+        "probe con\n",
+        ". load 40002000 4 = 74726976\n. load 40002004 4 = 00000002\n. load 40002008 4 = 00000003\n. load 4000200c 4 = 00001af4\n1 id 3 p=0 n=4\nframes 0\nconsole -\ndisk 2048\nend\n",
+        0,
+    ),
+    (
+        &["raw", "mmio"],
+        "load 40002008 4\n",
+        "1 00000003\nframes 0\nconsole -\ndisk 2048\nend\n",
+        0,
+    ),
+    (&["run", "mmio"], "load 40002008 4\n", "fault 1\n", 3),
+    (
+        &["run", "mmio", "trace"],
+        "load 40002008 4\n",
+        "fault 1\n",
+        3,
+    ),
+    (&["raw", "mmio"], "probe con\n", "fault 1\n", 3),
+];
+
 #[test]
 fn words_of_commands(rt: HostRuntime) -> Result<(), Fail> {
-    let end = "frames 0\nconsole -\ndisk 2048\nend\n";
-    let reset = "1 id 3 p=0 n=4\n2 ok p=0 n=2\n";
-    let traced =
-        ". load 40002000 4 = 74726976\n. load 40002004 4 = 00000002\n. load 40002008 4 = 00000003\n. load 4000200c 4 = 00001af4\n1 id 3 p=0 n=4\n. store 40002070 4 00000000 = ok\n. load 40002070 4 = 00000000\n2 ok p=0 n=2\n";
-    let id = "1 00000003\n";
-    let script = "probe con\nreset con\n";
-    let raw = "load 40002008 4\n";
-    let run: &[&str] = &["run", "mmio"];
-    let with_trace: &[&str] = &["run", "mmio", "trace"];
-    let run_raw: &[&str] = &["raw", "mmio"];
-    for (words, script, report, end, status) in [
-        (run, script, reset, end, 0u8),
-        (with_trace, script, traced, end, 0u8),
-        (run_raw, raw, id, end, 0u8),
-        (run, raw, "fault 1\n", "", 3u8),
-        (with_trace, raw, "fault 1\n", "", 3u8),
-        (run_raw, script, "fault 1\n", "", 3u8),
-    ] {
-        let outcome = with_words(words, script).make(rt.alloc())?;
-        let text = outcome.text().strip_prefix(report);
-        assert_eq!(rt; (text, outcome.status), (Some(end), status));
+    for (words, script, text, status) in WORDS {
+        let _outcome = with_words(words, script).gives(&rt, rt.alloc(), text, *status)?;
     }
     Ok(())
 }

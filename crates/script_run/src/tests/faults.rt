@@ -1,46 +1,99 @@
 //! Sources, sinks and disks that fail, and what was written until then.
 
-use super::call::{Call, Outcome, list, run};
+use super::call::{Call, list, run};
 use super::script::{OPENED, Script};
 use std::alloc::{AllocError, Global};
 use std::process::Abort;
 use std::test::Fail;
 use vt_outside::{Disk, MemDisk};
 
-/// A script of three lines, and what each prints.
-const SCRIPT: &str = "probe con\nreset con\ngetstatus con\n";
-
-const FIRST: &str = "1 id 3 p=0 n=4\n";
-
-const SECOND: &str = "1 id 3 p=0 n=4\n2 ok p=0 n=2\n";
-
-const ALL: &str = "1 id 3 p=0 n=4\n2 ok p=0 n=2\n3 status 00 p=0 n=1\n";
-
-/// The outcome of the script of three lines where these calls of the source, the sink and the disk fail.
-fn outcome(
-    alloc: Global,
-    source_fails: &[u8],
-    sink_fails: &[u8],
-    disk_fails: &[u8],
-) -> Result<Outcome, AllocError> {
-    let call = Call {
-        source_fails,
-        sink_fails,
-        disk_fails,
-        ..run(SCRIPT)
-    };
-    call.make(alloc)
+/// A script of three lines where some calls fail, and what comes of it: the status, how many calls of the sink failed, and
+/// what was written.
+#[derive(Clone, Copy)]
+struct Case {
+    source_fails: &'static [u8],
+    sink_fails: &'static [u8],
+    disk_fails: &'static [u8],
+    status: u8,
+    failed: u32,
+    text: &'static str,
 }
 
-/// A source that fails: at its first read, and once the lines that came were run.
+const CASES: &[Case] = &[
+    // The first read fails.
+    Case {
+        source_fails: &[1],
+        sink_fails: &[],
+        disk_fails: &[],
+        status: 4,
+        failed: 0,
+        text: "",
+    },
+    // The second read fails, once the lines that came were run.
+    Case {
+        source_fails: &[0, 1],
+        sink_fails: &[],
+        disk_fails: &[],
+        status: 4,
+        failed: 0,
+        text: "1 id 3 p=0 n=4\n2 ok p=0 n=2\n3 status 00 p=0 n=1\n",
+    },
+    // The line of an operation can't be written: the run stops at once.
+    Case {
+        source_fails: &[],
+        sink_fails: &[1],
+        disk_fails: &[],
+        status: 5,
+        failed: 1,
+        text: "",
+    },
+    Case {
+        source_fails: &[],
+        sink_fails: &[0, 0, 1],
+        disk_fails: &[],
+        status: 5,
+        failed: 1,
+        text: "1 id 3 p=0 n=4\n2 ok p=0 n=2\n",
+    },
+    // The end parts can't be written.
+    Case {
+        source_fails: &[],
+        sink_fails: &[0, 0, 0, 1],
+        disk_fails: &[],
+        status: 5,
+        failed: 1,
+        text: "1 id 3 p=0 n=4\n2 ok p=0 n=2\n3 status 00 p=0 n=1\n",
+    },
+    // Sectors can't be read: the run goes on.
+    Case {
+        source_fails: &[],
+        sink_fails: &[],
+        disk_fails: &[1],
+        status: 0,
+        failed: 0,
+        text: "1 id 3 p=0 n=4\n2 ok p=0 n=2\n3 status 00 p=0 n=1\nframes 0\nconsole -\ndisk 2048\nsector 0 unreadable\nend\n",
+    },
+    Case {
+        source_fails: &[],
+        sink_fails: &[],
+        disk_fails: &[0, 1, 0, 1],
+        status: 0,
+        failed: 0,
+        text: "1 id 3 p=0 n=4\n2 ok p=0 n=2\n3 status 00 p=0 n=1\nframes 0\nconsole -\ndisk 2048\nsector 1 unreadable\nsector 3 unreadable\nend\n",
+    },
+];
+
 #[test]
-fn failing_sources(rt: HostRuntime) -> Result<(), Fail> {
-    let first: &[u8] = &[1];
-    let second: &[u8] = &[0, 1];
-    for (source_fails, text) in [(first, ""), (second, ALL)] {
-        let outcome = outcome(rt.alloc(), source_fails, &[], &[])?;
-        assert_eq!(rt; (outcome.text(), outcome.status), (text, 4));
-        assert_eq!(rt; outcome.failed, 0);
+fn failing_calls(rt: HostRuntime) -> Result<(), Fail> {
+    for case in CASES {
+        let call = Call {
+            source_fails: case.source_fails,
+            sink_fails: case.sink_fails,
+            disk_fails: case.disk_fails,
+            ..run("probe con\nreset con\ngetstatus con\n")
+        };
+        let outcome = call.gives(&rt, rt.alloc(), case.text, case.status)?;
+        assert_eq!(rt; outcome.failed, case.failed);
     }
     Ok(())
 }
@@ -64,46 +117,6 @@ fn a_source_that_fails_in_the_middle(rt: HostRuntime) -> Result<(), Fail> {
     Ok(())
 }
 
-/// A sink that fails: the run stops at once, and what was written is a front of the report.
-#[test]
-fn failing_sinks(rt: HostRuntime) -> Result<(), Fail> {
-    let first: &[u8] = &[1];
-    let second: &[u8] = &[0, 1];
-    let third: &[u8] = &[0, 0, 1];
-    for (sink_fails, text) in [(first, ""), (second, FIRST), (third, SECOND)] {
-        let outcome = outcome(rt.alloc(), &[], sink_fails, &[])?;
-        assert_eq!(rt; (outcome.text(), outcome.status), (text, 5));
-        assert_eq!(rt; outcome.failed, 1);
-    }
-    Ok(())
-}
-
-/// A sink that fails in the end parts.
-#[test]
-fn a_sink_that_fails_at_the_end(rt: HostRuntime) -> Result<(), Fail> {
-    let outcome = outcome(rt.alloc(), &[], &[0, 0, 0, 1], &[])?;
-    assert_eq!(rt; (outcome.text(), outcome.status), (ALL, 5));
-    assert_eq!(rt; outcome.failed, 1);
-    Ok(())
-}
-
-/// A disk that fails: the sectors whose reading fails are said to be unreadable, and the run goes on.
-#[test]
-fn failing_disks(rt: HostRuntime) -> Result<(), Fail> {
-    let first: &[u8] = &[1];
-    let some: &[u8] = &[0, 1, 0, 1];
-    let end = "frames 0\nconsole -\ndisk 2048\n";
-    for (disk_fails, sectors) in [
-        (first, "sector 0 unreadable\n"),
-        (some, "sector 1 unreadable\nsector 3 unreadable\n"),
-    ] {
-        let outcome = outcome(rt.alloc(), &[], &[], disk_fails)?;
-        let wanted = format!(in rt.alloc(); "{ALL}{end}{sectors}end\n")?;
-        assert_eq!(rt; (outcome.text(), outcome.status), (wanted.as_str(), 0));
-    }
-    Ok(())
-}
-
 /// A disk of three sectors, one of which is not all zeros; byte k of `fails` says whether the k-th reading fails.
 fn written_disk(rt: &impl Abort, alloc: Global, fails: &[u8]) -> Result<MemDisk, AllocError> {
     let mut calls = list(alloc, &[0])?;
@@ -116,32 +129,38 @@ fn written_disk(rt: &impl Abort, alloc: Global, fails: &[u8]) -> Result<MemDisk,
     Ok(disk)
 }
 
-/// A sector that is not all zeros has its line, where it can be read; the disk comes back as it was.
+/// A run over such a disk, which comes back as it was: its report begins and ends so.
+fn run_over_written_disk(
+    rt: &impl Abort,
+    alloc: Global,
+    fails: &[u8],
+    begin: &str,
+    end: &str,
+) -> Result<(), AllocError> {
+    let disk = written_disk(rt, alloc, fails)?;
+    let (outcome, mut disk) = run("").make_over(alloc, disk)?;
+    assert!(rt; outcome.text().starts_with(begin));
+    assert!(rt; outcome.text().ends_with(end));
+    let mut sector = [0; 512];
+    assert_eq!(rt; disk.sectors(), 3);
+    assert_eq!(rt; disk.read_sector(1, &mut sector), Ok(()));
+    assert_eq!(rt; sector[511], 0x2a);
+    Ok(())
+}
+
+/// A sector that is not all zeros has its line, where it can be read.
 #[test]
-fn a_written_disk(rt: HostRuntime) -> Result<(), Fail> {
-    let calm: &[u8] = &[];
-    let failing: &[u8] = &[0, 1];
-    for (fails, begin, end) in [
-        (
-            calm,
-            "frames 0\nconsole -\ndisk 3\nsector 1 0000",
-            "002a\nend\n",
-        ),
-        (
-            failing,
-            "frames 0\nconsole -\ndisk 3\n",
-            "sector 1 unreadable\nend\n",
-        ),
-    ] {
-        let disk = written_disk(&rt, rt.alloc(), fails)?;
-        let (outcome, mut disk) = run("").make_over(rt.alloc(), disk)?;
-        assert_eq!(rt; outcome.status, 0);
-        assert!(rt; outcome.text().starts_with(begin));
-        assert!(rt; outcome.text().ends_with(end));
-        let mut sector = [0; 512];
-        assert_eq!(rt; disk.sectors(), 3);
-        assert_eq!(rt; disk.read_sector(1, &mut sector), Ok(()));
-        assert_eq!(rt; sector[511], 0x2a);
-    }
+fn written_disks(rt: HostRuntime) -> Result<(), Fail> {
+    let alloc = rt.alloc();
+    let calm = "frames 0\nconsole -\ndisk 3\nsector 1 0000";
+    run_over_written_disk(&rt, alloc, &[], calm, "002a\nend\n")?;
+    let failing = "frames 0\nconsole -\ndisk 3\nsector 1 unreadable\nend\n";
+    run_over_written_disk(
+        &rt,
+        alloc,
+        &[0, 1],
+        failing,
+        "disk 3\nsector 1 unreadable\nend\n",
+    )?;
     Ok(())
 }

@@ -3,6 +3,7 @@
 use super::call::run;
 use super::script::Opening::{Accepts, BringsUp, Nothing};
 use super::script::{OPENED, Row, Script, VERSION_1, WITH_EVENT_IDX, all_hold};
+use std::alloc::{AllocError, Global};
 use std::test::Fail;
 use vt_types::MOST_EVENTS;
 
@@ -247,26 +248,34 @@ fn marks(rt: HostRuntime) -> Result<(), Fail> {
     Ok(())
 }
 
-/// So many events in a line: all in one gap, or each in a round of its own of a field that is read. They are the most that a
-/// line may have, and so a field is never read in more rounds than that and one.
+/// A line that reads a field with the most events that a line may have: all in one gap, or each in a round of its own.
+fn with_most_events(alloc: Global, each_in_a_round: bool) -> Result<String, AllocError> {
+    let mut line = String::from_str(alloc, "readcfg con cols")?;
+    for n in 0..MOST_EVENTS {
+        let gap = if each_in_a_round { 3 * n + 2 } else { 2 };
+        write!(line, " @{gap}:consize {n} 0")?;
+    }
+    Ok(line)
+}
+
+/// A field is read in one round more than there are changes at most.
 #[test]
 fn most_events(rt: HostRuntime) -> Result<(), Fail> {
-    let alloc = rt.alloc();
-    let mut at_once = String::from_str(alloc, "readcfg con cols")?;
-    let mut in_rounds = String::from_str(alloc, "readcfg con cols")?;
-    for n in 0..MOST_EVENTS {
-        let gap = 3 * n + 2;
-        write!(at_once, " @2:consize {n} 0")?;
-        write!(in_rounds, " @{gap}:consize {n} 0")?;
-    }
-    let mut script = Script::new(alloc, OPENED)?;
+    let at_once = with_most_events(rt.alloc(), false)?;
+    let in_rounds = with_most_events(rt.alloc(), true)?;
+    let mut script = Script::new(rt.alloc(), OPENED)?;
     script.line(at_once.as_str(), "value 7f00 p=128 n=6")?;
     script.line(in_rounds.as_str(), "value 7f00 p=128 n=387")?;
     script.line("readcfg con cols", "value 7f00 p=0 n=3")?;
-    script.holds(&rt, alloc, "-")?;
+    script.holds(&rt, rt.alloc(), "-")?;
+    Ok(())
+}
 
-    at_once.push_str(" @2:key 61\n")?;
-    let outcome = run(at_once.as_str()).make(alloc)?;
-    assert_eq!(rt; (outcome.text(), outcome.status), ("fault 1\n", 3));
+/// A line with one event more is not in the grammar.
+#[test]
+fn too_many_events(rt: HostRuntime) -> Result<(), Fail> {
+    let mut line = with_most_events(rt.alloc(), false)?;
+    line.push_str(" @2:key 61")?;
+    let _outcome = run(line.as_str()).gives(&rt, rt.alloc(), "fault 1\n", 3)?;
     Ok(())
 }

@@ -119,9 +119,8 @@ impl Script {
         console: &str,
     ) -> Result<(), AllocError> {
         write!(self.report, "frames 0\nconsole {console}\ndisk 2048\nend\n")?;
-        let outcome = run(self.input.as_str()).make(alloc)?;
-        assert_eq!(rt; outcome.text(), self.report.as_str());
-        assert_eq!(rt; outcome.status, 0);
+        let call = run(self.input.as_str());
+        let _outcome = call.gives(rt, alloc, self.report.as_str(), 0)?;
         Ok(())
     }
 }

@@ -2,6 +2,7 @@
 
 use super::call::{Call, with_words};
 use std::alloc::{AllocError, Global};
+use std::process::Abort;
 use std::test::Fail;
 
 /// A line of a script, its trace, and what it prints behind its number.
@@ -200,72 +201,111 @@ fn traced_script(
     Ok(script)
 }
 
+/// A call of a script: it writes this text, ends with this status, and shows these traces.
+fn shows(
+    rt: &impl Abort,
+    alloc: Global,
+    call: &Call<'_>,
+    text: &str,
+    status: u8,
+    traces: &str,
+) -> Result<(), AllocError> {
+    let outcome = call.gives(rt, alloc, text, status)?;
+    assert_eq!(rt; outcome.shown(), Some(traces));
+    Ok(())
+}
+
 /// The traces of a session stand in its report where they are asked for, and are shown in either case.
 #[test]
 fn a_session(rt: HostRuntime) -> Result<(), Fail> {
     let script = traced_script(rt.alloc(), SESSION, END)?;
-    let plain: &[&str] = &["run", "mmio"];
-    let traced: &[&str] = &["run", "mmio", "trace"];
-    for (words, report) in [(plain, &script.report), (traced, &script.traced_report)] {
-        let outcome = with_words(words, script.input.as_str()).make(rt.alloc())?;
-        assert_eq!(rt; outcome.text(), report.as_str());
-        assert_eq!(rt; outcome.shown(), Some(script.traces.as_str()));
-        assert_eq!(rt; (outcome.status, outcome.failed), (0, 0));
-    }
+    let (input, traces) = (script.input.as_str(), script.traces.as_str());
+    let call = with_words(&["run", "mmio"], input);
+    shows(&rt, rt.alloc(), &call, script.report.as_str(), 0, traces)?;
+    let call = with_words(&["run", "mmio", "trace"], input);
+    shows(
+        &rt,
+        rt.alloc(),
+        &call,
+        script.traced_report.as_str(),
+        0,
+        traces,
+    )?;
     Ok(())
 }
 
-/// A run that ends at a bad line, or stops, has shown the traces of the lines that were run: a trace is shown before what
-/// its line prints is sent.
+/// A run that ends at a bad line has shown the traces of the lines before it.
 #[test]
-fn runs_that_stop(rt: HostRuntime) -> Result<(), Fail> {
-    let lines = &SESSION[..3];
-    let mut bad = traced_script(rt.alloc(), lines, "fault 4\n")?;
-    bad.input.push_str("foo\nprobe con\n")?;
-    let call = with_words(&["run", "mmio"], bad.input.as_str());
-    let calm: &[u8] = &[];
-    let third: &[u8] = &[0, 0, 1];
-    for (sink_fails, lines_written, status) in [
-        (calm, bad.report.as_str(), 3u8),
-        (third, "1 id 3 p=0 n=4\n2 ok p=0 n=2\n", 5u8),
-    ] {
-        let outcome = Call { sink_fails, ..call }.make(rt.alloc())?;
-        assert_eq!(rt; (outcome.text(), outcome.status), (lines_written, status));
-        assert_eq!(rt; outcome.shown(), Some(bad.traces.as_str()));
-    }
+fn a_bad_line(rt: HostRuntime) -> Result<(), Fail> {
+    let mut script = traced_script(rt.alloc(), &SESSION[..3], "fault 4\n")?;
+    script.input.push_str("foo\nprobe con\n")?;
+    let call = with_words(&["run", "mmio"], script.input.as_str());
+    shows(
+        &rt,
+        rt.alloc(),
+        &call,
+        script.report.as_str(),
+        3,
+        script.traces.as_str(),
+    )?;
+    Ok(())
+}
 
-    let cut = traced_script(rt.alloc(), lines, "")?;
+/// A source that fails: the traces of the lines that came were shown.
+#[test]
+fn a_failing_source(rt: HostRuntime) -> Result<(), Fail> {
+    let script = traced_script(rt.alloc(), &SESSION[..3], "")?;
     let call = Call {
         source_fails: &[0, 1],
-        ..with_words(&["run", "mmio", "trace"], cut.input.as_str())
+        ..with_words(&["run", "mmio", "trace"], script.input.as_str())
     };
-    let outcome = call.make(rt.alloc())?;
-    assert_eq!(rt;
-        (outcome.text(), outcome.status),
-        (cut.traced_report.as_str(), 4)
-    );
-    assert_eq!(rt; outcome.shown(), Some(cut.traces.as_str()));
+    shows(
+        &rt,
+        rt.alloc(),
+        &call,
+        script.traced_report.as_str(),
+        4,
+        script.traces.as_str(),
+    )?;
     Ok(())
 }
 
-/// A traced run to a sink that fails has written a front of the report and shown a front of the traces, wherever it fails.
+/// A trace is shown before what its line prints is sent: also where this can't be written.
+#[test]
+fn a_failing_sink(rt: HostRuntime) -> Result<(), Fail> {
+    let script = traced_script(rt.alloc(), &SESSION[..3], "")?;
+    let call = Call {
+        sink_fails: &[0, 0, 1],
+        ..with_words(&["run", "mmio"], script.input.as_str())
+    };
+    let text = "1 id 3 p=0 n=4\n2 ok p=0 n=2\n";
+    shows(&rt, rt.alloc(), &call, text, 5, script.traces.as_str())?;
+    Ok(())
+}
+
+/// Whether a traced run to a sink that fails so has stopped with a front of its report written and one of its traces shown.
+fn stops_in_front(
+    alloc: Global,
+    script: &TracedScript,
+    sink_fails: &[u8],
+) -> Result<bool, AllocError> {
+    let call = Call {
+        sink_fails,
+        ..with_words(&["run", "mmio", "trace"], script.input.as_str())
+    };
+    let outcome = call.make(alloc)?;
+    let shown = outcome.shown().unwrap_or("no text");
+    let is_front = script.traced_report.as_str().starts_with(outcome.text())
+        && script.traces.as_str().starts_with(shown);
+    Ok(is_front && outcome.status == 5)
+}
+
 #[test]
 fn traced_runs_to_failing_sinks(rt: HostRuntime) -> Result<(), Fail> {
     let script = traced_script(rt.alloc(), &SESSION[..5], "")?;
-    let mut fails = Vec::new(rt.alloc());
-    for _call in 0..6 {
-        let mut sink_fails = fails.clone()?;
-        sink_fails.push(1)?;
-        let call = Call {
-            sink_fails: sink_fails.as_slice(),
-            ..with_words(&["run", "mmio", "trace"], script.input.as_str())
-        };
-        let outcome = call.make(rt.alloc())?;
-        let shown = outcome.shown().unwrap_or("no text");
-        assert!(rt; script.traced_report.as_str().starts_with(outcome.text()));
-        assert!(rt; script.traces.as_str().starts_with(shown));
-        assert_eq!(rt; outcome.status, 5);
-        fails.push(0)?;
+    let fails: &[u8] = &[0, 0, 0, 0, 0, 1];
+    for call in 0..6 {
+        assert!(rt; stops_in_front(rt.alloc(), &script, &fails[call..])?);
     }
     Ok(())
 }
@@ -273,17 +313,13 @@ fn traced_runs_to_failing_sinks(rt: HostRuntime) -> Result<(), Fail> {
 /// Where a watch can't keep all that it is shown, it does not tell; the report is the same.
 #[test]
 fn a_watch_that_does_not_tell(rt: HostRuntime) -> Result<(), Fail> {
-    let mut lines = Vec::new(rt.alloc());
-    for line in &SESSION[..2] {
-        lines.push(*line)?;
-    }
+    let mut lines = SESSION[..2].to_vec(rt.alloc())?;
     for _line in 0..300 {
         lines.push(SESSION[2])?;
     }
     let script = traced_script(rt.alloc(), &lines, "frames 0\nconsole -\ndisk 2048\nend\n")?;
     let call = with_words(&["run", "mmio", "trace"], script.input.as_str());
-    let outcome = call.make(rt.alloc())?;
-    assert_eq!(rt; outcome.text(), script.traced_report.as_str());
-    assert_eq!(rt; (outcome.status, outcome.shown()), (0, None));
+    let outcome = call.gives(&rt, rt.alloc(), script.traced_report.as_str(), 0)?;
+    assert_eq!(rt; outcome.shown(), None);
     Ok(())
 }
