@@ -16,7 +16,7 @@ use Rattle.vt_machine.specs.Trace.{trace_from}
 use Rattle.vt_machine.proofs.TraceLaws.{operation_traced}
 use Rattle.drv_core.specs.Driver.{DriverRecord, Ended}
 use Rattle.interleaving.specs.Agrees.{Agrees}
-use Rattle.interleaving.specs.Asked.{LONGEST_TRACE}
+use Rattle.vt_machine.specs.Lines.{LONGEST_TRACE}
 use Rattle.interleaving.specs.BusDefinition.{BusDefinition, trace_of}
 use Rattle.interleaving.specs.Safe.{Relation}
 use Rattle.line_runner.specs.Shows.{RunsAs}

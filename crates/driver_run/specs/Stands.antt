@@ -1,10 +1,10 @@
 use Rattle.std.specs.Prelude.{◌≡◌, ◌+◌, ◌*◌, ◌≤◌, []}
 use Rattle.vt_types.specs.Events.{MOST_EVENTS}
-use Rattle.vt_types.specs.Limits.{LONGEST_BUFFER}
+use Rattle.vt_types.specs.Limits.{GREATEST_COST, LONGEST_BUFFER}
 use Rattle.report_text.specs.Text.{EVENT_SPARE, LINE_SPARE}
-use Rattle.vt_machine.specs.Machine.{MachineView, GREATEST_COST, PAGES_OF_LINE}
+use Rattle.vt_machine.specs.Machine.{MachineView, PAGES_OF_LINE}
 use Rattle.drv_core.specs.Driver.{DriverRecord}
-use Rattle.interleaving.specs.Asked.{LONGEST_TRACE}
+use Rattle.vt_machine.specs.Lines.{LONGEST_TRACE}
 use Rattle.interleaving.specs.Safe.{Relation}
 use Rattle.driver_run.specs.DrivenScript.{Halves}
 

@@ -8,11 +8,9 @@ ghost use Rattle.vt_layout.specs.Mmio.{config_address};
 ghost use Rattle.drv_mmio.specs.Calls.{ClearsAreas, Loads, LoadsAt, Stores, StoresAddress, StoresAt};
 ghost use Rattle.drv_mmio.specs.Lowering.{number_of};
 
+use vt_layout::queue_block::QUEUE_AREAS;
 use vt_layout::{ConfigPart, MmioRegister, config_address};
 use vt_types::{Access, Answer, Dev, Port, Room};
-
-/// The bytes of a queue's areas: the descriptors, the driver area and the device area, with what lies between them (our own).
-const QUEUE_AREAS: u16 = 40960;
 
 /// The number of so many bytes that a load answered; another answer counts as 0.
 fn number(answer: Answer, width: u8) -> u32

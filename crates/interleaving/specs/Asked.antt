@@ -1,4 +1,4 @@
-use Rattle.std.specs.Prelude.{ℕ, ◌^◌, IsTrue}
+use Rattle.std.specs.Prelude.{IsTrue}
 use Rattle.vt_types.specs.Operation.{Operation, device_of}
 use Rattle.vt_types.specs.Within.{IsOperationWithin}
 use Rattle.dev_core.specs.There.{is_there}
@@ -7,7 +7,3 @@ use Rattle.dev_core.specs.There.{is_there}
 pub record IsAsked (op : Operation) : Type 0 where
   pub there : IsTrue (is_there (device_of op))
   pub within : IsOperationWithin op
-
--- no lines of the accesses of an operation are longer (our own)
-abbrev pub LONGEST_TRACE : ℕ
-LONGEST_TRACE = 2 ^ 19

@@ -24,7 +24,8 @@ use Rattle.drv_core.specs.Lowering.{on_queue, post_reply, queue_program, reap_re
 use Rattle.state_table.specs.Refusal.{refusal_of}
 use Rattle.drv_mmio.specs.Lowering.{allowed_lowering, config_round, load, load_parts, mmio_lowering, number_of, readcfg_lowering, store_parts, value_read}
 use Rattle.mmio_simulation.proofs.BoundedQueues.{post_is_short, reap_is_short, signals_are_short}
-use Rattle.interleaving.specs.Asked.{IsAsked, LONGEST_TRACE}
+use Rattle.interleaving.specs.Asked.{IsAsked}
+use Rattle.vt_machine.specs.Lines.{LONGEST_TRACE}
 
 -- the lines of a program's accesses are not too long
 abbrev IsShort : Program Ended → Type 0

@@ -5,6 +5,5 @@ pub mod EventLaws
 pub mod PostLaws
 pub mod BoundLaws
 pub mod LineLaws
-pub mod FormLaws
 pub mod TakenLaws
 pub mod ReaderLaws

@@ -5,6 +5,9 @@ ghost use Rattle.vt_layout.specs.QueueBlock as map;
 
 use vt_types::LONGEST_BUFFER;
 
+/// The bytes of a queue's areas: the descriptors, the driver area and the device area, with what lies between them.
+pub const QUEUE_AREAS: u16 = 40_960;
+
 /// From a queue block to its driver area.
 pub const DRIVER_AREA: u64 = 0x4000;
 
@@ -24,7 +27,9 @@ pub const DATA: u64 = 0x40_0000;
 pub const DATA_LEN: u64 = LONGEST_BUFFER as u64;
 
 /// This is the definitions' memory map. Does nothing.
+#[tactic(auto, unfolding(vt_layout::specs::QueueBlock::QUEUE_AREAS))]
 pub fn map_is_defined()
+    ensures areas { QUEUE_AREAS ≡ map.QUEUE_AREAS }
     ensures driver_area { DRIVER_AREA ≡ map.DRIVER_AREA }
     ensures device_area { DEVICE_AREA ≡ map.DEVICE_AREA }
     ensures tables { TABLES ≡ map.TABLES }

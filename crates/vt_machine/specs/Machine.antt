@@ -3,7 +3,7 @@ use Rattle.vt_types.specs.declared.access.Answer.{Answer}
 use Rattle.vt_types.specs.declared.operation.EventAt.{EventAt}
 use Rattle.vt_types.specs.Access.{AccessValue}
 use Rattle.vt_types.specs.Events.{MOST_EVENTS}
-use Rattle.vt_types.specs.Limits.{LONGEST_BUFFER}
+use Rattle.vt_types.specs.Limits.{GREATEST_COST, LONGEST_BUFFER}
 use Rattle.vt_types.specs.Program.{got, is_got}
 use Rattle.vt_outside.specs.Tripped.{TrippedView}
 use Rattle.report_text.specs.Access.{access_line, longest_access_line}
@@ -47,11 +47,7 @@ longest_lines events = length events * EVENT_SPARE
 abbrev pub counted : ℕ → ℕ
 counted n = min (n + 1) (2 ^ 32 - 1)
 
--- the most that the accesses of an operation may cost, and the most pages of guest memory that one line of a script may
--- make: these, and those of its events (our own)
-abbrev pub GREATEST_COST : ℕ
-GREATEST_COST = 4096
-
+-- the most pages of guest memory that one line of a script may make: those of its accesses, and those of its events (our own)
 abbrev pub PAGES_OF_LINE : ℕ
 PAGES_OF_LINE = GREATEST_COST + MOST_EVENTS * PAGES_OF_EVENT
 

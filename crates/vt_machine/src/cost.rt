@@ -2,7 +2,7 @@
 
 ghost use Rattle.std.specs.Prelude.{◌≤◌};
 ghost use Rattle.vt_types.specs.Access.{access_value, access_cost, IsWithinLimits};
-ghost use Rattle.vt_machine.specs.Machine.{GREATEST_COST};
+ghost use Rattle.vt_types.specs.Limits.{GREATEST_COST};
 
 use vt_types::Access;
 

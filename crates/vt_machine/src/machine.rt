@@ -3,7 +3,7 @@
 ghost use Rattle.std.specs.Prelude.{◌≡◌, ◌+◌, ◌*◌, ◌==◌, ◌<◌, ◌≤◌, [], ◌∷◌, drop, length, replicate, IfOk, IfErr, IfSome, OnOk};
 ghost use Rattle.vt_types.specs.Access.{access_value, access_cost, IsWithinLimits};
 ghost use Rattle.vt_types.specs.Events.{MOST_EVENTS, event_at};
-ghost use Rattle.vt_types.specs.Limits.{LONGEST_BUFFER, MOST_SECTORS};
+ghost use Rattle.vt_types.specs.Limits.{GREATEST_COST, LONGEST_BUFFER, MOST_SECTORS};
 ghost use Rattle.vt_types.specs.Program.{got};
 ghost use Rattle.vt_types.specs.Within.{AreEventsWithin};
 ghost use Rattle.vt_outside.specs.Disk.{Called, Reads};
@@ -14,7 +14,7 @@ ghost use Rattle.dev_core.specs.Bus.{MEMORY_LENGTH, RawStep, raw_event};
 ghost use Rattle.dev_core.specs.Devices.{new_devices};
 ghost use Rattle.dev_core.specs.Pages.{PAGES_OF_EVENT};
 ghost use Rattle.vt_machine.specs.Happens.{Happens};
-ghost use Rattle.vt_machine.specs.Machine.{AddsLines, GREATEST_COST, counted, credit_of};
+ghost use Rattle.vt_machine.specs.Machine.{AddsLines, counted, credit_of};
 ghost use Rattle.vt_machine.specs.OperationEvents.{is_due};
 ghost use Rattle.vt_machine.specs.Trace.{due, later};
 

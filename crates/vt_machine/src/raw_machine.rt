@@ -3,6 +3,7 @@
 ghost use Rattle.std.specs.Prelude.{◌≡◌, ◌+◌, ◌≤◌, ◌<◌, ◌^◌, replicate, IfOk, IfErr, IfSome, OnOk, length};
 ghost use Rattle.vt_types.specs.declared.operation.Event.TheVariants as event;
 ghost use Rattle.vt_types.specs.Access.{access_value, access_cost, IsWithinLimits};
+ghost use Rattle.vt_types.specs.Limits as limit;
 ghost use Rattle.vt_types.specs.Limits.{LONGEST_BUFFER, MOST_SECTORS};
 ghost use Rattle.vt_outside.specs.Disk.{Called, Reads};
 ghost use Rattle.vt_outside.specs.DiskCall.{peek_call};
@@ -18,19 +19,19 @@ use guest_mem::GuestMem;
 use std::alloc::Global;
 use std::marker::Model;
 use vt_outside::{Back, Disk, Failed};
-use vt_types::{Access, Answer, Dev, Event, Memory, Room, Status};
+use vt_types::{Access, Answer, Dev, Event, LONGEST_MEMORY, Memory, Room, Status};
 
 /// The most pages of guest memory that one line of a script may make: 4,096 by the accesses of its operation, and 22 by
 /// each of its 128 events (our own).
 pub const PAGES_OF_LINE: u32 = 6912;
 
-/// How many bytes guest memory has.
+/// How many bytes guest memory has: the most that it may have.
 #[tactic(auto, unfolding(dev_core::specs::Bus::MEMORY_LENGTH))]
 fn memory_len() -> u64
     ensures value { result ≡ MEMORY_LENGTH }
-    ensures most { result ≤ 2 ^ 28 }
+    ensures most { result ≤ limit.LONGEST_MEMORY }
 {
-    1 << 28
+    LONGEST_MEMORY
 }
 
 /// A bus, guest memory of 2^28 bytes, and the devices with the disk behind them: one access or one event at a time.

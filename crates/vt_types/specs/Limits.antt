@@ -32,3 +32,7 @@ GUEST_PAGE = 4096
 -- the most sectors of a disk (our own)
 abbrev pub MOST_SECTORS : ℕ
 MOST_SECTORS = 65536
+
+-- the most that the accesses of one operation may cost a port (our own)
+abbrev pub GREATEST_COST : ℕ
+GREATEST_COST = 4096
