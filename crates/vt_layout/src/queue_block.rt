@@ -27,7 +27,7 @@ pub const DATA: u64 = 0x40_0000;
 pub const DATA_LEN: u64 = LONGEST_BUFFER as u64;
 
 /// This is the definitions' memory map. Does nothing.
-#[tactic(auto, unfolding(vt_layout::specs::QueueBlock::QUEUE_AREAS))]
+#[tactic(auto, unfolding(crate::specs::QueueBlock::QUEUE_AREAS))]
 pub fn map_is_defined()
     ensures areas { QUEUE_AREAS ≡ map.QUEUE_AREAS }
     ensures driver_area { DRIVER_AREA ≡ map.DRIVER_AREA }
