@@ -22,13 +22,13 @@ use Rattle.memory_port.specs.MemoryTable.{memory_table}
 use Rattle.abstract_devices.specs.World.{AbstractQueue}
 use Rattle.abstract_devices.specs.Operate.{buffer_of}
 use Rattle.ring_part.specs.Held.{Held, UsedHeld, available_of, chain_of_held, unreaped_of, used_of}
-use Rattle.ring_part.specs.Laws.{GiveKeeps, PostKeeps, ReapKeeps, ReapsFirst, TakeKeeps, TakesFirst, WriteKeeps}
+use Rattle.ring_part.specs.Laws.{ChangedBy, GiveKeeps, PostKeeps, ReapKeeps, ReapsFirst, TakeKeeps, TakesFirst, WriteKeeps, give_puts, reap_puts}
 use Rattle.ring_part.specs.RingPart.{RingPart}
 use Rattle.ring_part.proofs.Frame.{frame}
 use Rattle.ring_part.proofs.Given as give
 use Rattle.ring_part.proofs.Posted.{held_for}
-use Rattle.ring_part.proofs.PostWhole.{posted_all}
-use Rattle.ring_part.proofs.ReapRun.{reaped_of, reaped_all, run-reap, run-reap_none, asked_memory}
+use Rattle.ring_part.proofs.PostWhole.{post_changes, posted_all}
+use Rattle.ring_part.proofs.ReapRun.{reap_changes, reaped_of, reaped_all, run-reap, run-reap_none, asked_memory}
 use Rattle.ring_part.proofs.Shown as walk
 use Rattle.ring_part.proofs.Taken.{taken_part}
 
@@ -56,6 +56,7 @@ give_keeps mem d c written signalled d2 mem2 gives = λ a q used before h after 
     in (
       subst (λ (g : Given). RingPart g.memory (record a { used = a.used ++ used_of u ∷ [] }) g.queue q (used ++ u ∷ []) (before ++ after) waiting) same (give.given before h after waiting written part few),
       sym (ap (λ (g : Given). g.signals) same) ∙ give.signalled before h after waiting written part few,
+      subst (λ (g : Given). ChangedBy (give_puts q.base q.cfg.size d.used u) mem g.memory) same (give.given_changes before h after waiting written part few),
     )
 
 pub post_keeps : {E : Type 0} (r : Result (Unit {0}) E) (q q2 : DriverQueue) (b : PostedBuffer) (mem mem2 : List ℕ)
@@ -68,7 +69,10 @@ post_keeps (Ok x) q q2 b mem mem2 ran postable new_tag table feature = λ a d us
       | inr room ↦
           let left : ((true, split_posted q b), after_all memory_table (split_post_accesses q b) mem) ≡ ((true, q2), mem2) = sym (run-post memory_table (λ mem. mem) q b mem room) ∙ ran in
           let P : (Bool × DriverQueue) × List ℕ → Type 0 = λ p. RingPart p.1 (record a { available = a.available ++ buffer_of b ∷ [] }) d p.0.1 used taken (waiting ++ held_for q b ∷ []) in
-          (held_for q b, refl, subst P left (posted_all part b postable room new_tag table feature))
+          let changes : ChangedBy (split_post_accesses q b) mem mem2
+          = subst (λ (p : (Bool × DriverQueue) × List ℕ). ChangedBy (split_post_accesses q b) mem p.1) left (post_changes part b postable room new_tag table feature)
+          in
+          (held_for q b, refl, subst P left (posted_all part b postable room new_tag table feature), changes)
     ]
 
 reaps_first : {mem : List ℕ} {a : AbstractQueue} {d : DeviceQueue} {q : DriverQueue} (used : List UsedHeld) {taken waiting : List Held} (r : Option ReapedValue) (q2 : DriverQueue) (mem2 : List ℕ) → RingPart mem a d q used taken waiting
@@ -78,8 +82,8 @@ reaps_first {mem} {a} {d} {q} [] {taken} {waiting} r q2 mem2 part ran =
     (ap (λ (p : (Option ReapedValue × DriverQueue) × List ℕ). p.0.0) left, ap (λ (p : (Option ReapedValue × DriverQueue) × List ℕ). p.0.1) left, ap (λ (p : (Option ReapedValue × DriverQueue) × List ℕ). p.1) left)
 reaps_first {mem} {a} {d} {q} (u ∷ used) {taken} {waiting} r q2 mem2 part ran =
     let left : ((Some (reaped_of u), split_reaped q (unreaped_of u.held)), asked_memory mem q) ≡ ((r, q2), mem2) = sym (run-reap part) ∙ ran in
-    let P : (Option ReapedValue × DriverQueue) × List ℕ → Type 0 = λ p. (p.0.0 ≡ Some (reaped_of u)) × RingPart p.1 (record a { used = map used_of used }) d p.0.1 used taken waiting in
-    subst P left (refl, reaped_all part)
+    let P : (Option ReapedValue × DriverQueue) × List ℕ → Type 0 = λ p. (p.0.0 ≡ Some (reaped_of u)) × RingPart p.1 (record a { used = map used_of used }) d p.0.1 used taken waiting × ChangedBy (reap_puts p.0.1) mem p.1 in
+    subst P left (refl, reaped_all part, reap_changes part)
 
 pub reap_keeps : (mem : List ℕ) (q : DriverQueue) (r : Option ReapedValue) (q2 : DriverQueue) (mem2 : List ℕ) → run memory_table (λ m. m) (split_reap_program q) mem ≡ ((r, q2), mem2) → ReapKeeps mem q r q2 mem2
 reap_keeps mem q r q2 mem2 ran = λ a d used taken waiting part. reaps_first used r q2 mem2 part ran

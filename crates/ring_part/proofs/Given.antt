@@ -22,6 +22,7 @@ use Rattle.abstract_devices.specs.Serve.{signals}
 use Rattle.memory_port.specs.Puts.{Hold}
 use Rattle.memory_port.proofs.PutLaws.{hold-same, all_in-weaker}
 use Rattle.ring_part.specs.Held.{Held, UsedHeld, CanStand, FitsRoom, HasThese, held_of, all_held, used_of, chain_of_held}
+use Rattle.ring_part.specs.Laws.{ChangedBy, give_puts}
 use Rattle.ring_part.specs.RingPuts.{element_bytes, written_at, all_puts, entry_at, entry_puts, element_at, element_puts, index_puts, asks_put, next}
 use Rattle.ring_part.specs.RingPart.{RingPart}
 use Rattle.ring_part.proofs.Records.{locations_of, in_use, distinct_in}
@@ -312,3 +313,18 @@ module _ {mem : List ℕ} {a : AbstractQueue} {d : DeviceQueue} {q : DriverQueue
         element = Apart-inside q.base BLOCK_LEN b n at_element 8 (omega arith) (omega (arith, size_low)) apart;
         index = Apart-inside q.base BLOCK_LEN b n at_index 2 (omega arith) (omega arith) apart;
       })
+
+  -- the device writes nowhere else
+  pub given_changes : ChangedBy (give_puts q.base q.cfg.size d.used u) mem result.memory
+  given_changes =
+      record {
+        long = given_length;
+        others = λ b n (from_element, (from_written, (from_index, _))).
+            ap (λ m. bytes_at m b n) memory_is
+            ∙ same b n
+            (record {
+              written = Apart-swapped b n at_written (length written) from_written;
+              element = Apart-swapped b n at_element 8 from_element;
+              index = Apart-swapped b n at_index 2 from_index;
+            });
+      }

@@ -22,13 +22,16 @@ use Rattle.memory_port.specs.MemoryTable.{memory_table}
 use Rattle.abstract_devices.specs.World.{AbstractQueue}
 use Rattle.abstract_devices.specs.Operate.{buffer_of}
 use Rattle.ring_part.specs.Held.{Held, UsedHeld, CanStand}
+use Rattle.ring_part.specs.Laws.{ChangedBy}
 use Rattle.ring_part.specs.Locations.{IsFreeLocation, OfDescriptor, AtEntry, OwnedBy}
 use Rattle.ring_part.specs.RingPart.{RingPart}
 use Rattle.ring_part.specs.RingPuts.{entry_at, held_puts, next}
 use Rattle.memory_port.specs.Puts.{AllApart, AllIn}
 use Rattle.ring_part.proofs.Facts as facts
 use Rattle.ring_part.proofs.Posted.{front_puts, held_for, posted_now, head_first}
+use Rattle.ring_part.proofs.Free.{free_inside}
 use Rattle.ring_part.proofs.PostPuts.{front_apart, puts_kept}
+use Rattle.ring_part.proofs.PutsApart.{puts_change}
 use Rattle.ring_part.proofs.PutLocations.{held_owned}
 use Rattle.memory_port.proofs.PutLaws.{all_in-append, all_in-weaker}
 
@@ -98,3 +101,11 @@ module _ {mem : List ℕ} {a : AbstractQueue} {d : DeviceQueue} {q : DriverQueue
       let inside : q.base + 0x1000000 ≤ length (written front mem) = kept.block.inside in
       subst (λ (m : List ℕ). RingPart m (record a { available = a.available ++ buffer_of b ∷ [] }) d (split_posted q b) used taken (waiting ++ h ∷ []))
       (sym (all_is (omega (arith, inside)))) (posted_now kept b postable room new_tag table feature stand)
+
+  -- and nothing else is changed
+  pub post_changes : ChangedBy (split_post_accesses q b) mem (after_all memory_table (split_post_accesses q b) mem)
+  post_changes =
+      let inside : q.base + 0x1000000 ≤ length mem = part.block.inside in
+      puts_change (split_post_accesses q b) mem
+      (subst (AllIn (λ b n. b + n ≤ length mem)) (sym index_is_last)
+      (all_in-append (λ b n. b + n ≤ length mem) front (Put index_at index ∷ []) (all_in-weaker (IsFreeLocation q) (λ b n. b + n ≤ length mem) (free_inside part) front front_free) (omega arith, tt)))

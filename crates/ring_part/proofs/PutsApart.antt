@@ -14,6 +14,7 @@ use Rattle.vq_posted.proofs.Members.{distinct_parts}
 use Rattle.vq_split_drv.specs.Post.{puts_of}
 use Rattle.vq_split_pair.proofs.Located.{locations_apart}
 use Rattle.vq_split_pair.proofs.Written.{IsPutWithin, written, written_put}
+use Rattle.ring_part.specs.Laws.{ChangedBy}
 use Rattle.ring_part.specs.Locations.{IsInside}
 use Rattle.memory_port.specs.Puts.{AllApart, AllIn, OfPut, put_of}
 use Rattle.memory_port.proofs.PutLaws.{all_in-append, all_in-weaker}
@@ -69,3 +70,17 @@ part_stays (Put b bytes ∷ more) mem memory addr count long (fits, inside) (her
     ∙ part_stays more (put_at mem b bytes) memory addr count (same ∙ long) inside apart
     ∙ part-put_at_apart mem b bytes addr count within (Apart-swapped addr count b (length bytes) here)
 part_stays (_ ∷ more) mem memory addr count long (fits, inside) apart = absurd fits
+
+-- memory keeps its length
+pub length_stays : (puts : List AccessValue) (mem : List ℕ) (memory : ℕ) → length mem ≡ memory → AllIn (λ b n. b + n ≤ memory) puts → length (written puts mem) ≡ memory
+length_stays [] mem memory long inside = long
+length_stays (Put b bytes ∷ more) mem memory long (fits, inside) =
+    let within : b + length bytes ≤ length mem = omega arith in
+    let same : length (put_at mem b bytes) ≡ length mem = length-put_at mem b bytes within in
+    ap length (written_put b bytes more mem within) ∙ length_stays more (put_at mem b bytes) memory (same ∙ long) inside
+length_stays (_ ∷ more) mem memory long (fits, inside) = absurd fits
+
+-- puts in memory change it there alone
+pub puts_change : (puts : List AccessValue) (mem : List ℕ) → AllIn (λ b n. b + n ≤ length mem) puts → ChangedBy puts mem (written puts mem)
+puts_change puts mem inside =
+    record { long = length_stays puts mem (length mem) refl inside; others = λ addr count apart. part_stays puts mem (length mem) addr count refl inside apart }

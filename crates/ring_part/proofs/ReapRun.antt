@@ -5,8 +5,9 @@ use Rattle.std.proofs.Math.Nat.{mod-lt}
 use Rattle.std.proofs.lemmas.Bool.{cases_Bool, cond-true, cond-false, eq-eqb, ne_eqb, le-leb}
 use Rattle.byteorder.specs.Endian.{little_bytes, little_number}
 use Rattle.guest_mem.specs.Memory.{part as bytes_at, put_at, le16_at}
-use Rattle.guest_mem.proofs.Parts.{length-part}
-use Rattle.vt_types.specs.Access.{Get}
+use Rattle.guest_mem.proofs.Parts.{length-part, length-put_at, part-put_at_apart}
+use Rattle.guest_mem.proofs.Ranges.{Apart-swapped}
+use Rattle.vt_types.specs.Access.{AccessValue, Get}
 use Rattle.vt_types.specs.Program.{Program, Do, Mark, End, run}
 use Rattle.port_access.specs.Accesses.{bytes_or_zeros, mark_unless}
 use Rattle.vt_layout.specs.QueueBlock.{data_address, device_area}
@@ -17,6 +18,7 @@ use Rattle.memory_port.specs.MemoryTable.{memory_table}
 use Rattle.memory_port.proofs.MemoryLaws.{run-get, run-put}
 use Rattle.abstract_devices.specs.World.{AbstractQueue}
 use Rattle.ring_part.specs.Held.{Held, UsedHeld, unreaped_of, used_of}
+use Rattle.ring_part.specs.Laws.{ChangedBy, reap_puts}
 use Rattle.ring_part.specs.RingPart.{RingPart}
 use Rattle.ring_part.specs.RingPuts.{element_at, event_at, next}
 use Rattle.ring_part.proofs.Facts as facts
@@ -131,4 +133,22 @@ module _ {mem : List ℕ} {a : AbstractQueue} {d : DeviceQueue} {q : DriverQueue
       elim (cases_Bool q.cfg.event_idx) [
         | inl t ↦ subst P (sym (cond-true q.cfg.event_idx mem2 mem t)) (reaped_asking part t)
         | inr f ↦ subst P (sym (cond-false q.cfg.event_idx mem2 mem f)) (reaped part f)
+      ]
+
+  -- nothing is changed but where it asks for the next signal
+  pub reap_changes : ChangedBy (reap_puts (split_reaped q (unreaped_of u.held))) mem (asked_memory mem q)
+  reap_changes =
+      let after : DriverQueue = split_reaped q (unreaped_of u.held) in
+      let bytes : List ℕ = little_bytes 2 (next q.used) in
+      let mem2 : List ℕ = put_at mem (event_at q.base q.cfg.size) bytes in
+      let event : event_at q.base q.cfg.size + 2 ≤ length mem = omega (arith, part.block.inside, facts.size_low part) in
+      elim (cases_Bool q.cfg.event_idx) [
+        | inl t ↦ subst (λ (puts : List AccessValue). ChangedBy puts mem (asked_memory mem q)) (sym (cond-true q.cfg.event_idx (used_event_put after ∷ []) [] t))
+            (subst (ChangedBy (used_event_put after ∷ []) mem) (sym (cond-true q.cfg.event_idx mem2 mem t))
+            (record {
+              long = length-put_at mem (event_at q.base q.cfg.size) bytes event;
+              others = λ b n (apart, _). part-put_at_apart mem (event_at q.base q.cfg.size) bytes b n event (Apart-swapped b n (event_at q.base q.cfg.size) 2 apart);
+            }))
+        | inr f ↦ subst (λ (puts : List AccessValue). ChangedBy puts mem (asked_memory mem q)) (sym (cond-false q.cfg.event_idx (used_event_put after ∷ []) [] f))
+            (subst (ChangedBy [] mem) (sym (cond-false q.cfg.event_idx mem2 mem f)) (record { long = refl; others = λ b n _. refl }))
       ]
