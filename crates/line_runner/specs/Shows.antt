@@ -12,11 +12,11 @@ pub record RunsAs {S : Type 0} (did : Did S) (stands : S → Type 0) (trace text
   pub printed : text ≡ did.text
   pub state : stands did.state
 
--- a line was run, the k-th of its script; or it is not in the grammar; or there was no memory
+-- a line was run, the k-th of its script; or it is not in the grammar, and the state is as before; or there was no memory
 abbrev pub RunsLine : {S : Type 0} → Option (ℕ → S → Did S) → ℕ → S → (S → Type 0) → List ℕ → List ℕ → Result Bool Stop → Type 0
 RunsLine (Some does) k state stands trace text (Ok true) = RunsAs (does k state) stands trace text
 RunsLine None k state stands trace text (Ok true) = ⊥
-RunsLine line k state stands trace text (Ok false) = line ≡ None
+RunsLine line k state stands trace text (Ok false) = (line ≡ None) × stands state
 RunsLine line k state stands trace text (Err e) = e ≡ Memory
 
 -- what a watch was shown in a run of a script on an input: all of the run's, or, where it stopped, a part of it
