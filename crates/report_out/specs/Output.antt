@@ -28,7 +28,7 @@ abbrev pub SendCause : {X : Type 0} → Result X Stop → SinkView → SinkView 
 SendCause (Ok x) k k2 = k2.faults ≡ k.faults
 SendCause (Err stop) k k2 = StopCause stop k k2
 
--- bytes were sent to a sink; where there are none, nothing was asked of it
+-- bytes were sent to a sink; where there are none, it is as it was
 pub record Sends (old new : SinkView) (bytes : List ℕ) (result : Result Unit Stop) : Type 0 where
   pub cause : SendCause result old new
   pub nothing : bytes ≡ [] → new ≡ old
