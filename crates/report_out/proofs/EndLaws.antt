@@ -8,18 +8,16 @@ use Rattle.vt_outside.specs.declared.failed.Failed.{Failed}
 use Rattle.vt_outside.specs.Disk.{DiskView, Called, Reads}
 use Rattle.vt_outside.specs.Sink.{SinkView}
 use Rattle.vt_outside.specs.Text.{IsPrefixOf}
-use Rattle.vt_outside.proofs.SinkLaws.{adds_none}
 use Rattle.report_text.specs.EndParts.{disk_line}
 use Rattle.report_text.specs.Words.{hex}
 use Rattle.vt_outside.proofs.TextLaws.{prefix_append, prefix_behind, prefix_none, prefix_then}
 use Rattle.report_out.specs.declared.stop.Stop.{Stop}
-use Rattle.report_out.specs.declared.stop.Stop.TheVariants.{Memory}
 use Rattle.report_out.specs.DiskCalls.{IsWhole, SameDisk}
 use Rattle.report_out.specs.EndText.{disk_text, end_text, first_outcome, reading_text, sector_lines}
 use Rattle.report_out.specs.Output.{Sends, SendsDisk}
 use Rattle.report_out.specs.Pieces.{console_text, line_of_sector, lines_below}
-use Rattle.report_out.proofs.OutcomeLaws.{first_taken, outcomes_none, outcomes_one}
-use Rattle.report_out.proofs.SendLaws.{all_made, disk_as, disk_front, disk_then, disk_unasked, part_as, same_none}
+use Rattle.report_out.proofs.OutcomeLaws.{first_taken, outcomes_one}
+use Rattle.report_out.proofs.SendLaws.{all_made, disk_as, disk_front, disk_then, disk_unasked, part_as}
 
 -- the outcomes behind one more than n
 drop_next : (n : ℕ) (outcomes : List Bool) → drop (suc n) outcomes ≡ drop n (drop 1 outcomes)
@@ -147,17 +145,3 @@ end_opened console n d k k2 stop told =
     (omega arith)
     (λ image outcomes is. prefix_append (console_text console) (disk_text image outcomes))
     (disk_unasked (console_text console) _ _ _ _ told)
-
--- for want of memory nothing was sent, and no sector was read
-pub end_none : (console : List ℕ) (n : ℕ) (d : DiskView) (k : SinkView) → SendsDisk (end_text [] console) n d d k k (Err Memory)
-end_none console n d k = record {
-  cause = refl;
-  disk_later = omega arith;
-  disk = same_none d;
-  outcomes = [];
-  tells = outcomes_none d.outcomes;
-  calls = omega arith;
-  sent = [];
-  adds = adds_none k.written;
-  part = λ image before after told takes. prefix_none _;
-}

@@ -1,4 +1,4 @@
-use Rattle.std.proofs.Common.{◌≡◌, ℕ, ◌+◌, ◌^◌, ◌≤◌, List, [], ◌++◌, length, Some, Bool, refl, sym, ◌∙◌, ap, inl, arith}
+use Rattle.std.proofs.Common.{◌≡◌, ℕ, ◌+◌, ◌≤◌, List, [], ◌++◌, length, Some, Bool, refl, sym, ◌∙◌, ap, inl, arith}
 use Rattle.std.specs.Prelude.{Ok, Err}
 use Rattle.vt_types.specs.Limits.{LONGEST_SCRIPT}
 use Rattle.vt_outside.specs.Disk.{DiskView}
@@ -47,13 +47,13 @@ all_calls sectors calls e = record {
 some_calls : (stop : Stop) (k k2 : SinkView) (sectors calls : ℕ) → StopCause stop k k2 → calls ≤ sectors → AreCallsOf (run_status (Err stop)) sectors calls
 some_calls Read k k2 sectors calls cause few = absurd cause
 some_calls Write k k2 sectors calls cause few = record { most = few; whole = λ e. cc; bad_line = λ e. cc; source_failed = λ e. cc; too_long = λ e. cc }
-some_calls Memory k k2 sectors calls cause few = record { most = few; whole = λ e. cc; bad_line = λ e. cc; source_failed = λ e. cc; too_long = λ e. cc }
+some_calls Memory k k2 sectors calls cause few = absurd cause
 
 -- why sending stopped is why the run did
 pub send_cause : (s s2 : SourceView) (k k2 : SinkView) (stop : Stop) → s2.faults ≡ s.faults → StopCause stop k k2 → RunCause (Err stop) s s2 k k2
 send_cause s s2 k k2 Read calm h = absurd h
 send_cause s s2 k k2 Write calm h = (calm, h)
-send_cause s s2 k k2 Memory calm h = (calm, h)
+send_cause s s2 k k2 Memory calm h = absurd h
 
 -- a run stopped before the disk was asked: what it wrote is a front of its report
 pub stopped_unasked : (report : Reporting) (ends : List ℕ → ℕ) (s s2 : SourceView) (k k2 : SinkView) (d : DiskView) (stop : Stop) (text : List ℕ)

@@ -1,4 +1,4 @@
-use Rattle.std.proofs.Common.{◌≡◌, ℕ, ◌+◌, ◌≤◌, List, [], ◌++◌, length, drop, Bool, Some, refl, ◌∙◌, arith, length-append}
+use Rattle.std.proofs.Common.{◌≡◌, ℕ, ◌+◌, ◌≤◌, List, [], ◌∷◌, ◌++◌, length, drop, Bool, Some, refl, ◌∙◌, arith, length-append}
 use Rattle.std.specs.Prelude.{Result, Ok, Err}
 use Rattle.vt_outside.specs.Disk.{DiskView}
 use Rattle.vt_outside.specs.Sink.{SinkView}
@@ -16,7 +16,7 @@ pub cause_then : {X : Type 0} (r : Result X Stop) (k k1 k2 : SinkView) → k1.fa
 cause_then (Ok x) k k1 k2 same h = h ∙ same
 cause_then (Err Read) k k1 k2 same h = h
 cause_then (Err Write) k k1 k2 same h = rw same at h
-cause_then (Err Memory) k k1 k2 same h = h ∙ same
+cause_then (Err Memory) k k1 k2 same h = h
 
 -- all of one text and then a part of another are a part of both
 pub part_then : (r : Result Unit Stop) (s x t y : List ℕ) → s ≡ x → AllOrPart r t y → AllOrPart r (s ++ t) (x ++ y)
@@ -37,14 +37,20 @@ made_then : (r : Result Unit Stop) (x y : List Bool) (n m : ℕ) → length x �
 made_then (Ok u) x y n m e h = omega (arith, e, h, length-append x y)
 made_then (Err u) x y n m e h = omega (arith, e, h, length-append x y)
 
+-- neither of two texts has bytes, where both together have none
+both_none : (x y : List ℕ) → x ++ y ≡ [] → (x ≡ []) × (y ≡ [])
+both_none [] y e = (refl, e)
+both_none (b ∷ x) y e = absurd (cc)
+
 -- nothing was sent yet
 pub sends_none : (k : SinkView) → Sends k k [] (Ok tt)
-sends_none k = record { cause = refl; sent = []; adds = adds_none k.written; part = refl }
+sends_none k = record { cause = refl; nothing = λ e. refl; sent = []; adds = adds_none k.written; part = refl }
 
 -- one text after another
 pub sends_then : (k k1 k2 : SinkView) (x y : List ℕ) (r : Result Unit Stop) → Sends k k1 x (Ok tt) → Sends k1 k2 y r → Sends k k2 (x ++ y) r
 sends_then k k1 k2 x y r h g = record {
   cause = cause_then r k k1 k2 h.cause g.cause;
+  nothing = λ e. let (none, others) = both_none x y e in g.nothing others ∙ h.nothing none;
   sent = h.sent ++ g.sent;
   adds = adds_then k.written k1.written k2.written h.sent g.sent h.adds g.adds;
   part = part_then r h.sent x g.sent y h.part g.part;
@@ -52,7 +58,13 @@ sends_then k k1 k2 x y r h g = record {
 
 -- a part of the front of a text is a part of the text
 pub sends_front : (k k1 : SinkView) (x y : List ℕ) (e : Stop) → IsPrefixOf x y → Sends k k1 x (Err e) → Sends k k1 y (Err e)
-sends_front k k1 x y e p h = record { cause = h.cause; sent = h.sent; adds = h.adds; part = prefix_then h.sent x y h.part p }
+sends_front k k1 x y e p h = record {
+  cause = h.cause;
+  nothing = λ none. h.nothing (both_none x p.0 (p.1 ∙ none)).0;
+  sent = h.sent;
+  adds = h.adds;
+  part = prefix_then h.sent x y h.part p;
+}
 
 -- a text by another name
 pub sends_as : (k k1 : SinkView) (x y : List ℕ) (r : Result Unit Stop) → x ≡ y → Sends k k1 x r → Sends k k1 y r

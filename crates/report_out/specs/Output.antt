@@ -1,4 +1,4 @@
-use Rattle.std.specs.Prelude.{◌≡◌, ℕ, ◌≤◌, List, length, Bool, Some, Result, Ok, Err}
+use Rattle.std.specs.Prelude.{◌≡◌, ℕ, ◌≤◌, List, [], length, Bool, Some, Result, Ok, Err}
 use Rattle.vt_outside.specs.Disk.{DiskView}
 use Rattle.vt_outside.specs.Faults.{Rose}
 use Rattle.vt_outside.specs.Sink.{SinkView, Adds}
@@ -17,20 +17,21 @@ abbrev pub AllOrAtMost : {X : Type 0} → Result X Stop → ℕ → ℕ → Type
 AllOrAtMost (Ok x) calls all = calls ≡ all
 AllOrAtMost (Err e) calls all = calls ≤ all
 
--- why sending stopped: the sink failed, or there was no memory and the sink's count of faults is as it was
+-- why sending stopped: the sink failed. It asks no source and takes no memory
 abbrev pub StopCause : Stop → SinkView → SinkView → Type 0
 StopCause Read k k2 = ⊥
 StopCause Write k k2 = Rose k.faults k2.faults
-StopCause Memory k k2 = k2.faults ≡ k.faults
+StopCause Memory k k2 = ⊥
 
 -- the cause of an answer; where all was sent, the sink's count of faults is as it was
 abbrev pub SendCause : {X : Type 0} → Result X Stop → SinkView → SinkView → Type 0
 SendCause (Ok x) k k2 = k2.faults ≡ k.faults
 SendCause (Err stop) k k2 = StopCause stop k k2
 
--- bytes were sent to a sink
+-- bytes were sent to a sink; where there are none, it is as it was
 pub record Sends (old new : SinkView) (bytes : List ℕ) (result : Result Unit Stop) : Type 0 where
   pub cause : SendCause result old new
+  pub nothing : bytes ≡ [] → new ≡ old
   pub sent : List ℕ
   pub adds : Adds old.written new.written sent
   pub part : AllOrPart result sent bytes

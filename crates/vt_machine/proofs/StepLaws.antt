@@ -6,9 +6,10 @@ use Rattle.vt_types.specs.Program.{got}
 use Rattle.report_text.specs.Access.{access_line, brings_bytes, longest_access_line}
 use Rattle.dev_core.specs.Bus.{BusTable, Raw, RawStep, raw_access}
 use Rattle.vt_machine.specs.Happens.{Happens}
-use Rattle.vt_machine.specs.Machine.{MachineView, MachineStep, AddsLines, counted}
+use Rattle.vt_machine.specs.Lines.{joined}
+use Rattle.vt_machine.specs.Machine.{MachineView, MachineStep, counted, lines_of}
 use Rattle.vt_machine.specs.Trace.{Accessed, due, later, occurred}
-use Rattle.vt_machine.proofs.LineLaws.{adds_more, adds_one, length-happening_line, length-happening_lines}
+use Rattle.vt_machine.proofs.LineLaws.{joined_lines-append, length-happening_line, length-happening_lines}
 
 -- no bytes come with either of two answers
 neither : {M : Type 0} (b : Bool) (x y : Answer × List ℕ × M) → x.1 ≡ [] → y.1 ≡ [] → (if b then x else y).1 ≡ []
@@ -42,7 +43,7 @@ no_bytes_of_step {R} bus old new a answer room room2 s h = ap (λ (did : Answer 
 pub machine_step : {R : Type 0} (bus : BusTable R) (old mid new : MachineView R) (a : AccessValue) (answer : Answer) (room room2 : List ℕ)
     → Happens bus (due old.count old.left) (later old.count old.left) old mid → RawStep bus mid.raw a answer room room2 new.raw
     → new ≡ record mid { raw = new.raw; count = counted mid.count; lines = new.lines; line_spare = new.line_spare; spare = new.spare; pages = new.pages }
-    → AddsLines mid new (access_line a answer (got answer room2)) → length (access_line a answer (got answer room2)) ≤ longest_access_line a → MachineStep bus old a answer room room2 new
+    → lines_of new ≡ joined (lines_of mid) (access_line a answer (got answer room2)) → length (access_line a answer (got answer room2)) ≤ longest_access_line a → MachineStep bus old a answer room room2 new
 machine_step {R} bus old mid new a answer room room2 h s same line short = record {
   table = rw h.raw at s.table;
   leaves = s.leaves;
@@ -50,7 +51,9 @@ machine_step {R} bus old mid new a answer room room2 h s same line short = recor
   count = ap (λ (m : MachineView R). m.count) same ∙ ap counted h.count;
   happened = ap (λ (m : MachineView R). m.happened) same ∙ h.happened;
   place = ap (λ (m : MachineView R). m.place) same ∙ h.place;
-  lines = adds_more old mid new (occurred (due old.count old.left)) (Accessed a answer (got answer room2) ∷ []) h.lines (adds_one mid new (Accessed a answer (got answer room2)) line);
+  lines =
+      line ∙ ap (λ l. joined l (access_line a answer (got answer room2))) h.lines
+      ∙ sym (joined_lines-append (lines_of old) (occurred (due old.count old.left)) (Accessed a answer (got answer room2) ∷ []));
   short = omega (arith, length-happening_lines (occurred (due old.count old.left)) (Accessed a answer (got answer room2) ∷ []), length-happening_line (Accessed a answer (got answer room2)), h.short, short);
   disk = ap (λ (m : MachineView R). m.disk) same ∙ h.disk;
 }

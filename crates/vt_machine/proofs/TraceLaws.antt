@@ -11,7 +11,7 @@ use Rattle.vt_machine.specs.Happens.{Happens}
 use Rattle.vt_machine.specs.IsTraced.{IsTraced}
 use Rattle.vt_machine.specs.Machine.{MachineView, MachineStep, MachineMark, counted, happening_lines, longest_lines}
 use Rattle.vt_machine.specs.Trace.{Trace, Happening, Accessed, due, later, occurred, raw_events, trace_from}
-use Rattle.vt_machine.proofs.LineLaws.{happening_lines-append}
+use Rattle.vt_machine.proofs.LineLaws.{happening_lines-append, lines_join}
 
 -- the greatest count
 abbrev pub GREATEST_COUNT : ℕ
@@ -72,7 +72,7 @@ module _ {R : Type 0} (bus : BusTable R) where
       let left : length mid.left ≡ length (later m.count m.left) = ap length s.left in
       let some = some_line a in
       let count : mid.count ≡ m.count + 1 = s.count ∙ counted_below m.count most (omega (arith, some, few)) fits.count in
-      let joined = s.lines (omega (arith, split, s.short, few, fits.lines)) in
+      let joined = lines_join m mid (occurred (due m.count m.left) ++ Accessed a answer (got answer room2) ∷ []) s.lines (omega (arith, split, s.short, few, fits.lines)) in
       (joined.0, record { lines = omega (arith, split, left, s.short, few, fits.lines, joined.1); count = omega (arith, count, few, some, fits.count) }, count)
 
   gave : {X : Type 0} (program : Program X) (m m2 : MachineView R) (x : X) (most : ℕ) → CountsAtMost longest_access_line program most → HasLines m most
@@ -135,7 +135,7 @@ module _ {R : Type 0} (bus : BusTable R) where
         raw = g.raw ∙ sym last.raw;
         count = g.count ∙ sym last.count;
         place = g.place ∙ sym last.place;
-        lines = rw g.happenings (lines_more m.lines m2.lines m3.lines g.happened (occurred m2.left) g.lines (last.lines (omega (arith, g.spare, last.short))).0);
+        lines = rw g.happenings (lines_more m.lines m2.lines m3.lines g.happened (occurred m2.left) g.lines (lines_join m2 m3 (occurred m2.left) last.lines (omega (arith, g.spare, last.short))).0);
         disk = last.disk ∙ g.disk;
       }
 

@@ -5,7 +5,7 @@ use Rattle.vt_types.specs.Within.{AreEventsWithin}
 use Rattle.dev_core.specs.Bus.{BusTable}
 use Rattle.dev_core.specs.Pages.{PAGES_OF_EVENT}
 use Rattle.vt_machine.specs.Lines.{LinesView}
-use Rattle.vt_machine.specs.Machine.{MachineView, HasSpare, AddsLines, happening_lines, longest_lines}
+use Rattle.vt_machine.specs.Machine.{MachineView, HasSpare, happening_lines, joined_lines, lines_of, longest_lines}
 use Rattle.vt_machine.specs.OperationEvents.{OperationEventsView}
 use Rattle.vt_machine.specs.RawMachine.{RawMachineView}
 use Rattle.vt_machine.specs.Trace.{occurred, raw_events}
@@ -38,7 +38,7 @@ pub record Happens {R : Type 0} (bus : BusTable R) (now rest : List EventAt) (ol
   pub count : new.count ≡ old.count
   pub happened : new.happened ≡ old.happened + length now
   pub place : new.place ≡ old.place
-  pub lines : AddsLines old new (happening_lines (occurred now))
+  pub lines : lines_of new ≡ joined_lines (lines_of old) (occurred now)
   pub short : length (happening_lines (occurred now)) ≤ longest_lines now
   pub spare : old.spare ≤ new.spare + length now * LONGEST_BUFFER
   pub pages : old.pages ≤ new.pages + length now * PAGES_OF_EVENT

@@ -1,4 +1,4 @@
-use Rattle.std.specs.Prelude.{◌≡◌, ℕ, ◌+◌, ◌^◌, ◌≤◌, List, ◌++◌, length}
+use Rattle.std.specs.Prelude.{ℕ, ◌-◌, ◌^◌, nat_lt, List, ◌++◌, length, if◌then◌else◌}
 use Rattle.report_text.specs.Text.{LINE_SPARE}
 
 -- lines, and for how many more bytes of them there are spare ones
@@ -6,9 +6,9 @@ pub record LinesView : Type 0 where
   pub bytes : List ℕ
   pub spare : ℕ
 
--- a line joins, where there are spare bytes for it and for the longest one
-abbrev pub Joins : LinesView → LinesView → List ℕ → Type 0
-Joins old new added = length added + LINE_SPARE ≤ old.spare → (new.bytes ≡ old.bytes ++ added) × (old.spare ≤ new.spare + length added)
+-- lines with one more at their end, which is left out where fewer bytes are spare than the longest one has
+abbrev pub joined : LinesView → List ℕ → LinesView
+joined lines line = if nat_lt lines.spare LINE_SPARE then lines else record { bytes = lines.bytes ++ line; spare = lines.spare - length line }
 
 -- no lines of the accesses of an operation are longer (our own)
 abbrev pub LONGEST_TRACE : ℕ

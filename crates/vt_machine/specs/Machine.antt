@@ -8,9 +8,10 @@ use Rattle.vt_types.specs.Program.{got, is_got}
 use Rattle.vt_outside.specs.Tripped.{TrippedView}
 use Rattle.report_text.specs.Access.{access_line, longest_access_line}
 use Rattle.report_text.specs.Event.{event_line}
-use Rattle.report_text.specs.Text.{EVENT_SPARE, LINE_SPARE}
+use Rattle.report_text.specs.Text.{EVENT_SPARE}
 use Rattle.dev_core.specs.Bus.{BusTable, Raw, raw_access}
 use Rattle.dev_core.specs.Pages.{PAGES_OF_EVENT}
+use Rattle.vt_machine.specs.Lines.{LinesView, joined}
 use Rattle.vt_machine.specs.Trace.{Happening, Accessed, Occurred, due, later, occurred, raw_events}
 
 -- a machine as contracts see it
@@ -39,6 +40,15 @@ abbrev pub happening_lines : List Happening → List ℕ
 happening_lines [] = []
 happening_lines (h ∷ hs) = happening_line h ++ happening_lines hs
 
+-- the lines of a machine
+abbrev pub lines_of : {R : Type 0} → MachineView R → LinesView
+lines_of m = record { bytes = m.lines; spare = m.line_spare }
+
+-- lines with those of what happened at their end, as far as bytes are spare
+abbrev pub joined_lines : LinesView → List Happening → LinesView
+joined_lines lines [] = lines
+joined_lines lines (h ∷ hs) = joined_lines (joined lines (happening_line h)) hs
+
 -- no lines of so many events are longer
 abbrev pub longest_lines : List EventAt → ℕ
 longest_lines events = length events * EVENT_SPARE
@@ -60,10 +70,6 @@ pub record HasSpare {R : Type 0} (m : MachineView R) : Type 0 where
   pub pages : length m.left * PAGES_OF_EVENT ≤ m.pages
   pub console : length m.left * LONGEST_BUFFER ≤ m.spare
 
--- lines join those of a machine, where there are spare bytes for them and for the longest one
-abbrev pub AddsLines : {R : Type 0} → MachineView R → MachineView R → List ℕ → Type 0
-AddsLines old new added = length added + LINE_SPARE ≤ old.line_spare → (new.lines ≡ old.lines ++ added) × (old.line_spare ≤ new.line_spare + length added)
-
 -- one access in an operation: the events that are due happen before it; it is answered by the table of the bus; the room is
 -- as before unless bytes came; and the lines of what happened join
 pub record MachineStep {R : Type 0} (bus : BusTable R) (old : MachineView R) (a : AccessValue) (answer : Answer) (room room2 : List ℕ) (new : MachineView R) : Type 0 where
@@ -73,7 +79,7 @@ pub record MachineStep {R : Type 0} (bus : BusTable R) (old : MachineView R) (a 
   pub count : new.count ≡ counted old.count
   pub happened : new.happened ≡ old.happened + length (due old.count old.left)
   pub place : new.place ≡ old.place
-  pub lines : AddsLines old new (happening_lines (occurred (due old.count old.left) ++ Accessed a answer (got answer room2) ∷ []))
+  pub lines : lines_of new ≡ joined_lines (lines_of old) (occurred (due old.count old.left) ++ Accessed a answer (got answer room2) ∷ [])
   pub short : length (happening_lines (occurred (due old.count old.left) ++ Accessed a answer (got answer room2) ∷ []))
       ≤ longest_lines (due old.count old.left) + longest_access_line a
   pub disk : new.disk ≡ old.disk

@@ -9,7 +9,7 @@ ghost use Rattle.report_text.specs.Access.{access_line};
 ghost use Rattle.report_text.specs.Event.{event_line};
 ghost use Rattle.report_text.specs.Text.{EVENT_SPARE};
 ghost use Rattle.vt_machine.specs.Lines as spec;
-ghost use Rattle.vt_machine.specs.Lines.{Joins};
+ghost use Rattle.vt_machine.specs.Lines.{joined};
 
 use report_text::{LINE_SPARE, Text};
 use std::alloc::Global;
@@ -96,7 +96,7 @@ impl Lines {
     /// Adds the line of an event.
     pub fn event(&mut self, e: &Event)
         requires { IsEventWithin e.now }
-        ensures { Joins self.old self.new (event_line e.now) }
+        ensures { self.new ≡ joined self.old (event_line e.now) }
     {
         if self.spare < LONGEST_LINE {
             return;
@@ -109,7 +109,7 @@ impl Lines {
     /// Adds the line of an access with its answer. The bytes of a get are in the room.
     pub fn access(&mut self, a: &Access<'_>, answer: &Answer, room: &Room)
         requires { IsWithinLimits (access_value a.now) }
-        ensures { Joins self.old self.new (access_line (access_value a.now) answer.now (got answer.now room.now.items)) }
+        ensures { self.new ≡ joined self.old (access_line (access_value a.now) answer.now (got answer.now room.now.items)) }
     {
         if self.spare < LONGEST_LINE {
             return;

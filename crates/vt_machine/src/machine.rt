@@ -14,7 +14,8 @@ ghost use Rattle.dev_core.specs.Bus.{MEMORY_LENGTH, RawStep, raw_event};
 ghost use Rattle.dev_core.specs.Devices.{new_devices};
 ghost use Rattle.dev_core.specs.Pages.{PAGES_OF_EVENT};
 ghost use Rattle.vt_machine.specs.Happens.{Happens};
-ghost use Rattle.vt_machine.specs.Machine.{AddsLines, counted, credit_of};
+ghost use Rattle.vt_machine.specs.Lines.{joined};
+ghost use Rattle.vt_machine.specs.Machine.{counted, credit_of, lines_of};
 ghost use Rattle.vt_machine.specs.OperationEvents.{is_due};
 ghost use Rattle.vt_machine.specs.Trace.{due, later};
 
@@ -181,7 +182,7 @@ impl<B: Bus, D: Disk> Machine<B, D> {
         requires credit { access_cost (access_value a.now) ≤ credit_of self.old }
         ensures step { RawStep B.table self.old.raw (access_value a.now) result room.old.items room.new.items self.new.raw }
         ensures same { self.new ≡ record self.old { raw = self.new.raw; count = counted self.old.count; lines = self.new.lines; line_spare = self.new.line_spare; spare = self.new.spare; pages = self.new.pages } }
-        ensures lines { AddsLines self.old self.new (access_line (access_value a.now) result (got result room.new.items)) }
+        ensures lines { lines_of self.new ≡ joined (lines_of self.old) (access_line (access_value a.now) result (got result room.new.items)) }
         ensures short { length (access_line (access_value a.now) result (got result room.new.items)) ≤ longest_access_line (access_value a.now) }
         ensures spare { self.old.spare ≤ self.new.spare + access_cost (access_value a.now) }
         ensures pages { self.old.pages ≤ self.new.pages + access_cost (access_value a.now) }
