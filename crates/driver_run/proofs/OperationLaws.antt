@@ -21,7 +21,7 @@ use Rattle.interleaving.specs.BusDefinition.{BusDefinition, trace_of}
 use Rattle.interleaving.specs.Safe.{Relation}
 use Rattle.line_runner.specs.Shows.{RunsAs}
 use Rattle.driver_run.specs.DrivenScript.{Halves, operation_does}
-use Rattle.driver_run.specs.Stands.{IsReserved, Stands}
+use Rattle.driver_run.specs.Represents.{IsReserved, Represents}
 use Rattle.driver_run.proofs.SentLaws.{placed_line-sent}
 
 module _ {R : Type 0} (bus : BusDefinition R) where
@@ -38,14 +38,14 @@ module _ {R : Type 0} (bus : BusDefinition R) where
 
   -- the trace and the text are those of the operation, and the halves after it are related
   pub operation_runs : (rel : Relation R) (op : Operation) (events : List EventAt) (k : ℕ) (h : Halves R) (before m : MachineView R) (kept kept2 : DriverRecord) (reply : ReplyValue) (text : List ℕ)
-      → Stands rel before kept h → IsTraced (trace_of bus before.raw kept op events) (record { reply = reply; known = kept2 }) (record before { lines = [] }) m
+      → Represents rel before kept h → IsTraced (trace_of bus before.raw kept op events) (record { reply = reply; known = kept2 }) (record before { lines = [] }) m
       → Agrees rel (placed_line bus.kind h.world op events (trace_of bus h.raw h.known op events).place) (trace_of bus h.raw h.known op events)
-      → text ≡ reply_line k reply m.place m.count → RunsAs (operation_does bus op events k h) (Stands rel m kept2) m.lines text
-  operation_runs rel op events k h before m kept kept2 reply text stands traced agrees printed =
+      → text ≡ reply_line k reply m.place m.count → RunsAs (operation_does bus op events k h) (Represents rel m kept2) m.lines text
+  operation_runs rel op events k h before m kept kept2 reply text represents traced agrees printed =
       let ended : Ended = record { reply = reply; known = kept2 } in
       let start : MachineView R = record before { lines = [] } in
-      let at_raw = subst (λ raw. IsTraced (trace_of bus raw kept op events) ended start m) stands.raw traced in
-      let t = subst (λ known. IsTraced (trace_of bus h.raw known op events) ended start m) stands.known at_raw in
+      let at_raw = subst (λ raw. IsTraced (trace_of bus raw kept op events) ended start m) represents.raw traced in
+      let t = subst (λ known. IsTraced (trace_of bus h.raw known op events) ended start m) represents.known at_raw in
       let replied = agrees.reply ∙ ap (λ (e : Ended). e.reply) t.result in
       record {
         traced = t.lines;
@@ -54,6 +54,6 @@ module _ {R : Type 0} (bus : BusDefinition R) where
           raw = sym t.raw;
           known = sym (ap (λ (e : Ended). e.known) t.result);
           related = agrees.related;
-          sent = placed_line-sent bus.kind h.world op events (trace_of bus h.raw h.known op events).place ∙ stands.sent;
+          sent = placed_line-sent bus.kind h.world op events (trace_of bus h.raw h.known op events).place ∙ represents.sent;
         };
       }

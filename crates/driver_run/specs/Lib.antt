@@ -1,3 +1,3 @@
 pub mod There
 pub mod DrivenScript
-pub mod Stands
+pub mod Represents

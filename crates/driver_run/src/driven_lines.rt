@@ -9,7 +9,7 @@ ghost use Rattle.line_runner.specs.Shows.{RunsLine};
 ghost use Rattle.script_text.specs.Line.{Asks, Happens, line_value};
 ghost use Rattle.script_text.specs.Within.{IsLineWithin};
 ghost use Rattle.driver_run.specs.DrivenScript.{Halves, driven_script, line_does, new_halves};
-ghost use Rattle.driver_run.specs.Stands.{IsReserved, Stands};
+ghost use Rattle.driver_run.specs.Represents.{IsReserved, Represents};
 ghost use Rattle.driver_run.specs.There.{if_there};
 
 use crate::operation_runner::OperationRunner;
@@ -32,7 +32,7 @@ pub struct DrivenLines<M: Simulation, D: Disk> {
 impl<M: Simulation, D: Disk> DrivenLines<M, D> {
     /// A runner that no line was run on, over a disk. Where there is no memory the disk comes back.
     pub fn new(alloc: Global, disk: D) -> Result<DrivenLines<M, D>, Back<D>>
-        ensures stands { IfOk result (λ l. (sectors : List (List ℕ)) (read_only : Bool) → Stands M.related l.runner.machine (M.Driver.known l.runner.driver) (new_halves (driven M.Bus.table M.Driver.lowering M.kind) sectors read_only)) }
+        ensures represents { IfOk result (λ l. (sectors : List (List ℕ)) (read_only : Bool) → Represents M.related l.runner.machine (M.Driver.known l.runner.driver) (new_halves (driven M.Bus.table M.Driver.lowering M.kind) sectors read_only)) }
         ensures disk { IfOk result (λ l. l.runner.machine.disk.disk ≡ D.view disk) }
         ensures err { IfErr result (λ b. b.disk ≡ disk) }
     {
@@ -47,7 +47,7 @@ impl<M: Simulation, D: Disk> DrivenLines<M, D> {
         requires events { AreEventsWithin events }
         requires reserved { IsReserved self.old.runner.machine }
         requires no_text { self.old.runner.text.bytes ≡ [] }
-        ensures runs { (h : Halves M.Bus) → Stands M.related self.old.runner.machine (M.Driver.known self.old.runner.driver) h → RunsLine (option_map (line_does (driven M.Bus.table M.Driver.lowering M.kind)) (if_there (Some (Asks (operation op.now, events))))) number h (Stands M.related self.new.runner.machine (M.Driver.known self.new.runner.driver)) self.new.runner.machine.lines self.new.runner.text.bytes (Ok result) }
+        ensures runs { (h : Halves M.Bus) → Represents M.related self.old.runner.machine (M.Driver.known self.old.runner.driver) h → RunsLine (option_map (line_does (driven M.Bus.table M.Driver.lowering M.kind)) (if_there (Some (Asks (operation op.now, events))))) number h (Represents M.related self.new.runner.machine (M.Driver.known self.new.runner.driver)) self.new.runner.machine.lines self.new.runner.text.bytes (Ok result) }
         ensures disk { self.new.runner.machine.disk ≡ self.old.runner.machine.disk }
     {
         if !is_operation_there(op, &events) {
@@ -63,7 +63,7 @@ impl<M: Simulation, D: Disk> DrivenLines<M, D> {
         requires reserved { IsReserved self.old.runner.machine }
         requires no_trace { self.old.runner.machine.lines ≡ [] }
         requires no_text { self.old.runner.text.bytes ≡ [] }
-        ensures runs { (number : ℕ) (h : Halves M.Bus) → Stands M.related self.old.runner.machine (M.Driver.known self.old.runner.driver) h → RunsLine (option_map (line_does (driven M.Bus.table M.Driver.lowering M.kind)) (if_there (Some (Happens e.now)))) number h (Stands M.related self.new.runner.machine (M.Driver.known self.new.runner.driver)) self.new.runner.machine.lines self.new.runner.text.bytes (Ok result) }
+        ensures runs { (number : ℕ) (h : Halves M.Bus) → Represents M.related self.old.runner.machine (M.Driver.known self.old.runner.driver) h → RunsLine (option_map (line_does (driven M.Bus.table M.Driver.lowering M.kind)) (if_there (Some (Happens e.now)))) number h (Represents M.related self.new.runner.machine (M.Driver.known self.new.runner.driver)) self.new.runner.machine.lines self.new.runner.text.bytes (Ok result) }
         ensures disk { self.new.runner.machine.disk ≡ self.old.runner.machine.disk }
     {
         if !is_event_there(e) {
@@ -79,7 +79,7 @@ impl<M: Simulation, D: Disk> DrivenLines<M, D> {
         requires reserved { IsReserved self.old.runner.machine }
         requires no_trace { self.old.runner.machine.lines ≡ [] }
         requires no_text { self.old.runner.text.bytes ≡ [] }
-        ensures runs { (h : Halves M.Bus) → Stands M.related self.old.runner.machine (M.Driver.known self.old.runner.driver) h → RunsLine (option_map (line_does (driven M.Bus.table M.Driver.lowering M.kind)) (if_there (Some (line_value line)))) number h (Stands M.related self.new.runner.machine (M.Driver.known self.new.runner.driver)) self.new.runner.machine.lines self.new.runner.text.bytes (Ok result) }
+        ensures runs { (h : Halves M.Bus) → Represents M.related self.old.runner.machine (M.Driver.known self.old.runner.driver) h → RunsLine (option_map (line_does (driven M.Bus.table M.Driver.lowering M.kind)) (if_there (Some (line_value line)))) number h (Represents M.related self.new.runner.machine (M.Driver.known self.new.runner.driver)) self.new.runner.machine.lines self.new.runner.text.bytes (Ok result) }
         ensures disk { self.new.runner.machine.disk ≡ self.old.runner.machine.disk }
     {
         match line {
@@ -97,7 +97,7 @@ impl<M: Simulation, D: Disk> LineRunner for DrivenLines<M, D> {
 
     ghost script = { driven_script (driven M.Bus.table M.Driver.lowering M.kind) };
 
-    ghost stands = { λ l h. Stands M.related l.runner.machine (M.Driver.known l.runner.driver) h };
+    ghost represents = { λ l h. Represents M.related l.runner.machine (M.Driver.known l.runner.driver) h };
 
     ghost traced = { λ l. l.runner.machine.lines };
 

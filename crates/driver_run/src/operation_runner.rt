@@ -36,11 +36,11 @@ impl<M: Simulation, D: Disk> OperationRunner<M, D> {
     ghost use Rattle.line_runner.specs.Shows.{RunsAs};
     ghost use Rattle.script_text.specs.Line.{Happens};
     ghost use Rattle.driver_run.specs.DrivenScript.{Halves, line_does, new_halves, operation_does};
-    ghost use Rattle.driver_run.specs.Stands.{IsReserved, Stands};
+    ghost use Rattle.driver_run.specs.Represents.{IsReserved, Represents};
 
     /// A new driver on a new machine over a disk. Where there is no memory the disk comes back.
     pub fn new(alloc: Global, disk: D) -> Result<OperationRunner<M, D>, Back<D>>
-        ensures stands { IfOk result (λ r. (sectors : List (List ℕ)) (read_only : Bool) → Stands M.related r.machine (M.Driver.known r.driver) (new_halves (driven M.Bus.table M.Driver.lowering M.kind) sectors read_only)) }
+        ensures represents { IfOk result (λ r. (sectors : List (List ℕ)) (read_only : Bool) → Represents M.related r.machine (M.Driver.known r.driver) (new_halves (driven M.Bus.table M.Driver.lowering M.kind) sectors read_only)) }
         ensures disk { IfOk result (λ r. r.machine.disk.disk ≡ D.view disk) }
         ensures err { IfErr result (λ b. b.disk ≡ disk) }
     {
@@ -62,7 +62,7 @@ impl<M: Simulation, D: Disk> OperationRunner<M, D> {
 
     /// Takes the trace and the text of the last line away, and reserves what the next line may take.
     pub fn begin_line(&mut self, alloc: Global) -> Result<(), Memory>
-        ensures stands { (h : Halves M.Bus) → Stands M.related self.old.machine (M.Driver.known self.old.driver) h → Stands M.related self.new.machine (M.Driver.known self.new.driver) h }
+        ensures represents { (h : Halves M.Bus) → Represents M.related self.old.machine (M.Driver.known self.old.driver) h → Represents M.related self.new.machine (M.Driver.known self.new.driver) h }
         ensures trace { self.new.machine.lines ≡ [] }
         ensures text { self.new.text.bytes ≡ [] }
         ensures disk { self.new.machine.disk ≡ self.old.machine.disk }
@@ -103,7 +103,7 @@ impl<M: Simulation, D: Disk> OperationRunner<M, D> {
         requires events { AreEventsWithin events }
         requires reserved { IsReserved self.old.machine }
         requires empty { self.old.text.bytes ≡ [] }
-        ensures runs { (h : Halves M.Bus) → Stands M.related self.old.machine (M.Driver.known self.old.driver) h → RunsAs (operation_does (driven M.Bus.table M.Driver.lowering M.kind) (operation op.now) events number h) (Stands M.related self.new.machine (M.Driver.known self.new.driver)) self.new.machine.lines self.new.text.bytes }
+        ensures runs { (h : Halves M.Bus) → Represents M.related self.old.machine (M.Driver.known self.old.driver) h → RunsAs (operation_does (driven M.Bus.table M.Driver.lowering M.kind) (operation op.now) events number h) (Represents M.related self.new.machine (M.Driver.known self.new.driver)) self.new.machine.lines self.new.text.bytes }
         ensures disk { self.new.machine.disk ≡ self.old.machine.disk }
     {
         interleaved::<M>();
@@ -115,7 +115,7 @@ impl<M: Simulation, D: Disk> OperationRunner<M, D> {
     pub fn event(&mut self, e: &Event)
         requires within { IsEventWithin e.now }
         requires reserved { IsReserved self.old.machine }
-        ensures stands { (h : Halves M.Bus) → Stands M.related self.old.machine (M.Driver.known self.old.driver) h → Stands M.related self.new.machine (M.Driver.known self.new.driver) (line_does (driven M.Bus.table M.Driver.lowering M.kind) (Happens e.now) 0 h).state }
+        ensures represents { (h : Halves M.Bus) → Represents M.related self.old.machine (M.Driver.known self.old.driver) h → Represents M.related self.new.machine (M.Driver.known self.new.driver) (line_does (driven M.Bus.table M.Driver.lowering M.kind) (Happens e.now) 0 h).state }
         ensures trace { self.new.machine.lines ≡ self.old.machine.lines }
         ensures text { self.new.text ≡ self.old.text }
         ensures disk { self.new.machine.disk ≡ self.old.machine.disk }

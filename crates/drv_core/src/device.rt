@@ -2,6 +2,7 @@
 
 ghost use Rattle.std.specs.Prelude.{◌≡◌, ℕ, ◌<◌, ◌≤◌, List, IfOk, IsTrue, MatchOption, Some, None, true, length, replicate};
 ghost use Rattle.std.specs.Option.{option_map};
+ghost use Rattle.vt_types.specs.Limits.{GREATEST_COST};
 ghost use Rattle.vt_types.specs.declared.device.Dev.{Dev};
 ghost use Rattle.vt_types.specs.Operation.{Disarm, Arm, Notify, Post, Reap, SetQueue, WriteConfig, operation, posted_buffer};
 ghost use Rattle.vt_types.specs.Reply.{reply_value};
@@ -315,7 +316,7 @@ impl DeviceDriver {
     pub(crate) fn post<P: Port>(&mut self, port: &mut P, number: u16, buf: &PostBuf) -> Reply
         requires within { IsBufferWithin (posted_buffer buf.now) }
         requires allowed { MayPost self.old number (posted_buffer buf.now) }
-        requires credit { 4096 ≤ P.credit port.old }
+        requires credit { GREATEST_COST ≤ P.credit port.old }
         ensures gives { (bytes : List ℕ) → GivesOnDevice P.step P.marking (λ known dev. post_lowering known dev number (posted_buffer buf.now)) self.old port.old (reply_value result bytes) self.new port.new }
         ensures queues { length self.new.queues ≡ length self.old.queues }
     {
@@ -325,7 +326,7 @@ impl DeviceDriver {
     /// Reaps a used buffer, which was not refused; its written bytes are in the room.
     pub(crate) fn reap<P: Port>(&mut self, port: &mut P, number: u16, room: &mut Room) -> Reply
         requires allowed { MayReap self.old number }
-        requires credit { 4096 ≤ P.credit port.old }
+        requires credit { GREATEST_COST ≤ P.credit port.old }
         ensures gives { GivesOnDevice P.step P.marking (λ known dev. reap_lowering known dev number) self.old port.old (reply_value result room.new.items) self.new port.new }
         ensures queues { length self.new.queues ≡ length self.old.queues }
     {
@@ -335,7 +336,7 @@ impl DeviceDriver {
     /// Asks for a signal per used buffer, or for none.
     pub(crate) fn set_signals<P: Port>(&mut self, port: &mut P, number: u16, on: bool) -> Reply
         requires allowed { MaySetSignals self.old number }
-        requires credit { 4096 ≤ P.credit port.old }
+        requires credit { GREATEST_COST ≤ P.credit port.old }
         ensures gives { (bytes : List ℕ) → GivesOnDevice P.step P.marking (λ known dev. signals_lowering known dev number on) self.old port.old (reply_value result bytes) self.new port.new }
         ensures queues { length self.new.queues ≡ length self.old.queues }
     {

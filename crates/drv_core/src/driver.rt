@@ -2,6 +2,7 @@
 
 ghost use Rattle.std.specs.Prelude.{◌≡◌, ℕ, ◌<◌, ◌≤◌, List, IfOk, IsTrue, Some, None, true, length};
 ghost use Rattle.vt_types.specs.Device.{queue_count};
+ghost use Rattle.vt_types.specs.Limits.{GREATEST_COST};
 ghost use Rattle.vt_types.specs.Operation.{Arm, Post, Reap, posted_buffer};
 ghost use Rattle.vt_types.specs.Program.{Gives};
 ghost use Rattle.vt_types.specs.Reply.{reply_value};
@@ -121,7 +122,7 @@ impl Driver {
     pub fn post<P: Port>(&mut self, port: &mut P, dev: Dev, queue: u16, buf: &PostBuf) -> Reply
         requires within { IsBufferWithin (posted_buffer buf.now) }
         requires allowed { refusal_of (known_of (record_of self.old dev)) (Post dev queue (posted_buffer buf.now)) ≡ None }
-        requires credit { 4096 ≤ P.credit port.old }
+        requires credit { GREATEST_COST ≤ P.credit port.old }
         ensures { (bytes : List ℕ) → Gives P.step P.marking (post_lowering self.old dev queue (posted_buffer buf.now)) port.old (record { reply = reply_value result bytes; known = self.new }) port.new }
     {
         match dev {
@@ -134,7 +135,7 @@ impl Driver {
     /// Reaps a used buffer of a queue, whose written bytes are then in the room; this was not refused.
     pub fn reap<P: Port>(&mut self, port: &mut P, dev: Dev, queue: u16, room: &mut Room) -> Reply
         requires allowed { refusal_of (known_of (record_of self.old dev)) (Reap dev queue) ≡ None }
-        requires credit { 4096 ≤ P.credit port.old }
+        requires credit { GREATEST_COST ≤ P.credit port.old }
         ensures { Gives P.step P.marking (reap_lowering self.old dev queue) port.old (record { reply = reply_value result room.new.items; known = self.new }) port.new }
     {
         match dev {
@@ -147,7 +148,7 @@ impl Driver {
     /// Asks for a signal per used buffer of a queue, or for none; this was not refused.
     pub fn set_signals<P: Port>(&mut self, port: &mut P, dev: Dev, queue: u16, on: bool) -> Reply
         requires allowed { refusal_of (known_of (record_of self.old dev)) (Arm dev queue) ≡ None }
-        requires credit { 4096 ≤ P.credit port.old }
+        requires credit { GREATEST_COST ≤ P.credit port.old }
         ensures { (bytes : List ℕ) → Gives P.step P.marking (signals_lowering self.old dev queue on) port.old (record { reply = reply_value result bytes; known = self.new }) port.new }
     {
         match dev {

@@ -7,7 +7,7 @@ ghost use Rattle.vt_types.specs.Reply.{Good, reply_value};
 ghost use Rattle.vt_types.specs.Within.{IsBufferWithin};
 ghost use Rattle.vq_common.specs.Buffer.{IsPostable};
 ghost use Rattle.vq_common.specs.Queue.{IsInBlock, holds_tag, is_queue_size, new_driver_queue};
-ghost use Rattle.vt_types.specs.Limits.{LONGEST_BUFFER};
+ghost use Rattle.vt_types.specs.Limits.{GREATEST_COST, LONGEST_BUFFER};
 ghost use Rattle.state_table.specs.Refusal.{is_full, is_tag_used, is_too_large};
 ghost use Rattle.drv_core.specs.Calls.{GivesOnQueue, GivesOnSet, post_to, reap_from, set_signals_of};
 ghost use Rattle.drv_core.specs.Driver.{queue_known};
@@ -57,7 +57,7 @@ fn post_to<P: Port>(end: &mut SplitDriver, port: &mut P, buf: &PostBuf) -> Reply
     requires postable { IsPostable (posted_buffer buf.now) }
     requires tag { holds_tag buf.now.tag end.old.queue.unreaped ≡ false }
     requires table { IsTrue buf.now.indirect → length buf.now.cuts.items ≤ end.old.queue.cfg.size }
-    requires credit { 4096 ≤ P.credit port.old }
+    requires credit { GREATEST_COST ≤ P.credit port.old }
     ensures gives { (bytes : List ℕ) → GivesOnSet P.step P.marking (post_to (posted_buffer buf.now)) end.old.queue port.old (reply_value result bytes) end.new.queue port.new }
     ensures size { end.new.queue.cfg.size ≡ end.old.queue.cfg.size }
     ensures greatest { end.new.greatest ≡ end.old.greatest }
@@ -72,7 +72,7 @@ fn post_to<P: Port>(end: &mut SplitDriver, port: &mut P, buf: &PostBuf) -> Reply
 /// Reaps a used buffer of a queue that is set.
 fn reap_from<P: Port>(end: &mut SplitDriver, port: &mut P, room: &mut Room) -> Reply
     requires started { 0 < end.old.queue.cfg.size }
-    requires credit { 4096 ≤ P.credit port.old }
+    requires credit { GREATEST_COST ≤ P.credit port.old }
     ensures gives { GivesOnSet P.step P.marking reap_from end.old.queue port.old (reply_value result room.new.items) end.new.queue port.new }
     ensures size { end.new.queue.cfg.size ≡ end.old.queue.cfg.size }
     ensures greatest { end.new.greatest ≡ end.old.greatest }
@@ -86,7 +86,7 @@ fn reap_from<P: Port>(end: &mut SplitDriver, port: &mut P, room: &mut Room) -> R
 /// Asks a queue that is set for a signal per used buffer, or for none.
 fn set_signals_of<P: Port>(end: &mut SplitDriver, port: &mut P, on: bool) -> Reply
     requires started { 0 < end.old.queue.cfg.size }
-    requires credit { 4096 ≤ P.credit port.old }
+    requires credit { GREATEST_COST ≤ P.credit port.old }
     ensures gives { (bytes : List ℕ) → GivesOnSet P.step P.marking (set_signals_of on) end.old.queue port.old (reply_value result bytes) end.new.queue port.new }
     ensures size { end.new.queue.cfg.size ≡ end.old.queue.cfg.size }
     ensures greatest { end.new.greatest ≡ end.old.greatest }
@@ -166,7 +166,7 @@ impl QueueEnd {
         requires within { IsBufferWithin (posted_buffer buf.now) }
         requires tag { is_tag_used (option_map queue_known self.old) (posted_buffer buf.now) ≡ false }
         requires large { is_too_large (option_map queue_known self.old) (posted_buffer buf.now) ≡ false }
-        requires credit { 4096 ≤ P.credit port.old }
+        requires credit { GREATEST_COST ≤ P.credit port.old }
         ensures { (bytes : List ℕ) → GivesOnQueue P.step P.marking (post_to (posted_buffer buf.now)) self.old port.old (reply_value result bytes) self.new port.new }
     {
         match self.size {
@@ -177,7 +177,7 @@ impl QueueEnd {
 
     /// Reaps a used buffer; its written bytes are in the room.
     pub fn reap<P: Port>(&mut self, port: &mut P, room: &mut Room) -> Reply
-        requires { 4096 ≤ P.credit port.old }
+        requires { GREATEST_COST ≤ P.credit port.old }
         ensures { GivesOnQueue P.step P.marking reap_from self.old port.old (reply_value result room.new.items) self.new port.new }
     {
         match self.size {
@@ -188,7 +188,7 @@ impl QueueEnd {
 
     /// Asks for a signal per used buffer, or for none.
     pub fn set_signals<P: Port>(&mut self, port: &mut P, on: bool) -> Reply
-        requires { 4096 ≤ P.credit port.old }
+        requires { GREATEST_COST ≤ P.credit port.old }
         ensures { (bytes : List ℕ) → GivesOnQueue P.step P.marking (set_signals_of on) self.old port.old (reply_value result bytes) self.new port.new }
     {
         match self.size {

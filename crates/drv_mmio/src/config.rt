@@ -3,6 +3,7 @@
 ghost use Rattle.std.specs.Prelude.{◌≡◌, ◌+◌, ◌*◌, ◌<◌, ◌≤◌, ◌^◌, ◌++◌, All, IsTrue, length, map, sum};
 ghost use Rattle.byteorder.specs.Endian.{little_bytes};
 ghost use Rattle.vt_types.specs.Access.{is_width};
+ghost use Rattle.vt_types.specs.Limits.{GREATEST_COST};
 ghost use Rattle.vt_types.specs.Program.{Gives};
 ghost use Rattle.vt_types.specs.Reply.{reply_value};
 ghost use Rattle.vt_layout.specs.Fields.{IsPart};
@@ -88,7 +89,7 @@ pub fn read<P: Port>(port: &mut P, dev: Dev, field: Field, repeats: u32, room: &
 
 /// Writes a field, in its first part; those that are written have one.
 pub fn write<P: Port>(port: &mut P, dev: Dev, field: Field, value: u32, room: &mut Room) -> Reply
-    requires { 4096 ≤ P.credit port.old }
+    requires { GREATEST_COST ≤ P.credit port.old }
     ensures { (known : DriverRecord) → Gives P.step P.marking (writecfg_lowering known dev field value) port.old (record { reply = reply_value result room.new.items; known = known }) port.new }
 {
     if let Some(part) = field_parts(field).as_slice().first() {

@@ -1,6 +1,7 @@
 //! The driver.
 
 ghost use Rattle.std.specs.Prelude.{◌≡◌, ◌≤◌, None};
+ghost use Rattle.vt_types.specs.Limits.{GREATEST_COST};
 ghost use Rattle.vt_types.specs.Operation.{device_of, operation};
 ghost use Rattle.vt_types.specs.Program.{Gives};
 ghost use Rattle.vt_types.specs.Reply.{reply_value};
@@ -36,7 +37,7 @@ fn allowed<P: Port>(
 ) -> Reply
     requires within { IsOperationWithin (operation op.now) }
     requires allowed { refusal_of (known_of (record_of driver.old (device_of (operation op.now)))) (operation op.now) ≡ None }
-    requires credit { 4096 ≤ P.credit port.old }
+    requires credit { GREATEST_COST ≤ P.credit port.old }
     ensures gives { Gives P.step P.marking (allowed_lowering driver.old (operation op.now) repeats) port.old (record { reply = reply_value result room.new.items; known = driver.new }) port.new }
 {
     match op {

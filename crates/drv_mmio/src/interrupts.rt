@@ -1,6 +1,7 @@
 //! Signals that stand, and their acknowledgement (VIRTIO 1.2, 4.2.3.4).
 
 ghost use Rattle.std.specs.Prelude.{◌≡◌, ◌≤◌};
+ghost use Rattle.vt_types.specs.Limits.{GREATEST_COST};
 ghost use Rattle.vt_types.specs.Program.{Gives};
 ghost use Rattle.vt_types.specs.Reply.{reply_value};
 ghost use Rattle.drv_core.specs.Driver.{DriverRecord};
@@ -14,7 +15,7 @@ use vt_types::{Dev, Port, Reply, Room};
 
 /// Whether a queue signalled: any queue, since the bus has one bit for them. The signal is acknowledged.
 pub fn ask_queues<P: Port>(port: &mut P, dev: Dev, room: &mut Room) -> Reply
-    requires { 4096 ≤ P.credit port.old }
+    requires { GREATEST_COST ≤ P.credit port.old }
     ensures { (known : DriverRecord) → Gives P.step P.marking (irq_queues_lowering known dev) port.old (record { reply = reply_value result room.new.items; known = known }) port.new }
 {
     let bits = InterruptBits(load(port, dev, MmioRegister::InterruptStatus, room));
@@ -30,7 +31,7 @@ pub fn ask_queues<P: Port>(port: &mut P, dev: Dev, room: &mut Room) -> Reply
 
 /// Whether a changed configuration was signalled. The signal is acknowledged.
 pub fn ask_config<P: Port>(port: &mut P, dev: Dev, room: &mut Room) -> Reply
-    requires { 4096 ≤ P.credit port.old }
+    requires { GREATEST_COST ≤ P.credit port.old }
     ensures { (known : DriverRecord) → Gives P.step P.marking (irq_config_lowering known dev) port.old (record { reply = reply_value result room.new.items; known = known }) port.new }
 {
     let bits = InterruptBits(load(port, dev, MmioRegister::InterruptStatus, room));

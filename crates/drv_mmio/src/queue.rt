@@ -2,6 +2,7 @@
 
 ghost use Rattle.std.specs.Prelude.{◌≡◌, ◌+◌, ◌<◌, ◌≤◌, None};
 ghost use Rattle.vt_types.specs.Device.{queue_block, queue_count};
+ghost use Rattle.vt_types.specs.Limits.{GREATEST_COST};
 ghost use Rattle.vt_types.specs.Operation.{SetQueue};
 ghost use Rattle.vt_types.specs.Program.{Gives};
 ghost use Rattle.vt_types.specs.Reply.{reply_value};
@@ -53,7 +54,7 @@ fn store_areas<P: Port>(port: &mut P, dev: Dev, cfg: &RingCfg, room: &mut Room)
 /// Clears the areas of a queue, selects and describes it, and sets it.
 fn describe<P: Port>(port: &mut P, dev: Dev, queue: u16, cfg: &RingCfg, room: &mut Room)
     requires queue { queue < queue_count dev }
-    requires credit { 4096 ≤ P.credit port.old }
+    requires credit { GREATEST_COST ≤ P.credit port.old }
     ensures { Describes P.step P.marking dev queue cfg.now port.old port.new }
 {
     clear_areas(port, dev, queue, room);
@@ -76,7 +77,7 @@ pub fn set_queue<P: Port>(
     room: &mut Room,
 ) -> Reply
     requires allowed { refusal_of (known_of (record_of driver.old dev)) (SetQueue dev queue size) ≡ None }
-    requires credit { 4096 ≤ P.credit port.old }
+    requires credit { GREATEST_COST ≤ P.credit port.old }
     ensures { Gives P.step P.marking (setq_lowering driver.old dev queue size) port.old (record { reply = reply_value result room.new.items; known = driver.new }) port.new }
 {
     let accepted = driver.device(dev).accepted();
@@ -88,7 +89,7 @@ pub fn set_queue<P: Port>(
 
 /// Stores the queue's number in QueueNotify.
 pub fn notify<P: Port>(port: &mut P, dev: Dev, queue: u16, room: &mut Room) -> Reply
-    requires { 4096 ≤ P.credit port.old }
+    requires { GREATEST_COST ≤ P.credit port.old }
     ensures { (known : DriverRecord) → Gives P.step P.marking (notify_lowering known dev queue) port.old (record { reply = reply_value result room.new.items; known = known }) port.new }
 {
     store(port, dev, MmioRegister::QueueNotify, u32::from(queue), room);

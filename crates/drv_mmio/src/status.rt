@@ -1,6 +1,7 @@
 //! The probe, the status and the features (VIRTIO 1.2, 3.1.1 and 4.2.3.1).
 
 ghost use Rattle.std.specs.Prelude.{◌≡◌, ◌≤◌};
+ghost use Rattle.vt_types.specs.Limits.{GREATEST_COST};
 ghost use Rattle.vt_types.specs.Program.{Gives};
 ghost use Rattle.vt_types.specs.Reply.{reply_value};
 ghost use Rattle.drv_core.specs.Driver.{DriverRecord};
@@ -33,7 +34,7 @@ pub fn probe<P: Port>(driver: &mut Driver, port: &mut P, dev: Dev, room: &mut Ro
 
 /// Makes the status 0, and reads it back.
 pub fn reset<P: Port>(driver: &mut Driver, port: &mut P, dev: Dev, room: &mut Room) -> Reply
-    requires { 4096 ≤ P.credit port.old }
+    requires { GREATEST_COST ≤ P.credit port.old }
     ensures { Gives P.step P.marking (reset_lowering driver.old dev) port.old (record { reply = reply_value result room.new.items; known = driver.new }) port.new }
 {
     store(port, dev, MmioRegister::Status, 0, room);
@@ -45,7 +46,7 @@ pub fn reset<P: Port>(driver: &mut Driver, port: &mut P, dev: Dev, room: &mut Ro
 
 /// Loads both words of the offered features.
 pub fn features<P: Port>(port: &mut P, dev: Dev, room: &mut Room) -> Reply
-    requires { 4096 ≤ P.credit port.old }
+    requires { GREATEST_COST ≤ P.credit port.old }
     ensures { (known : DriverRecord) → Gives P.step P.marking (features_lowering known dev) port.old (record { reply = reply_value result room.new.items; known = known }) port.new }
 {
     store(port, dev, MmioRegister::DeviceFeaturesSel, 0, room);
@@ -64,7 +65,7 @@ pub fn accept<P: Port>(
     features: u64,
     room: &mut Room,
 ) -> Reply
-    requires { 4096 ≤ P.credit port.old }
+    requires { GREATEST_COST ≤ P.credit port.old }
     ensures { Gives P.step P.marking (accept_lowering driver.old dev features) port.old (record { reply = reply_value result room.new.items; known = driver.new }) port.new }
 {
     let low = (features % (1 << 32)) as u32;
@@ -97,7 +98,7 @@ pub fn set_status<P: Port>(
     step: Step,
     room: &mut Room,
 ) -> Reply
-    requires { 4096 ≤ P.credit port.old }
+    requires { GREATEST_COST ≤ P.credit port.old }
     ensures { Gives P.step P.marking (status_lowering driver.old dev step) port.old (record { reply = reply_value result room.new.items; known = driver.new }) port.new }
 {
     store(

@@ -45,11 +45,11 @@ GoesOn script reader reader2 left left2 state next trace text fault (Ok (Some st
     × (status ≡ 0 → KnowsEnd (Some left2) reader2 → left2 ≡ [])
 GoesOn script reader reader2 left left2 state next trace text fault (Err stop) = Unit {0}
 
--- the state behind the next line is one that the runner stands for, unless the lines ended with a fault
-abbrev pub StandsBehind : {S : Type 0} → (S → Type 0) → S → Result (Option ℕ) Stop → Type 0
-StandsBehind stands next (Ok None) = stands next
-StandsBehind stands next (Ok (Some status)) = status ≡ 0 → stands next
-StandsBehind stands next (Err stop) = Unit {0}
+-- the state behind the next line is one that the runner represents, unless the lines ended with a fault
+abbrev pub IsRepresented : {S : Type 0} → (S → Type 0) → S → Result (Option ℕ) Stop → Type 0
+IsRepresented represents next (Ok None) = represents next
+IsRepresented represents next (Ok (Some status)) = status ≡ 0 → represents next
+IsRepresented represents next (Err stop) = Unit {0}
 
 -- with these numbers an input ends
 abbrev pub IsEnd : ℕ → Type 0
@@ -76,12 +76,12 @@ pub record ReadsNext (s s2 : SourceView) (reader reader2 : ReaderView) (result :
   pub within : bytes_taken reader2 ≤ LONGEST_SCRIPT + 1
   pub ends : KnowsEnd s.left reader → KnowsEnd s2.left reader2
 
--- and run from a state, by a runner that stands for some states then, with this trace and this text; or the lines ended with a
+-- and run from a state, by a runner that represents some states then, with this trace and this text; or the lines ended with a
 -- fault's text
-pub record RunsNext {S : Type 0} (script : Script S) (s s2 : SourceView) (reader reader2 : ReaderView) (state : S) (stands : S → Type 0) (trace text fault : List ℕ) (result : Result (Option ℕ) Stop) : Type 0 where
+pub record RunsNext {S : Type 0} (script : Script S) (s s2 : SourceView) (reader reader2 : ReaderView) (state : S) (represents : S → Type 0) (trace text fault : List ℕ) (result : Result (Option ℕ) Stop) : Type 0 where
   pub cause : NextCause result s.faults s2.faults
   pub next : S
-  pub behind : StandsBehind stands next result
+  pub behind : IsRepresented represents next result
   pub goes_on : (left : List ℕ) → s.left ≡ Some left
       → (left2 : List ℕ) × (s2.left ≡ Some left2) × GoesOn script reader reader2 left left2 state next trace text fault result
 
@@ -102,6 +102,6 @@ pub record RunsLines {S : Type 0} (script : Script S) (traces : Bool) (last : Li
   pub done : (input : List ℕ) (sectors : List (List ℕ)) (read_only : Bool) (outcomes : List Bool) → s.left ≡ Some input
       → LinesDone last (run_of script traces input sectors read_only outcomes) sectors outcomes sent shown result
 
--- where lines were run to their end by a runner that stands for some states then, this is what is printed at the end
-pub record IsLast {S : Type 0} (script : Script S) (stands : S → Type 0) (result : Result ℕ Stop) (last : List (List ℕ) → List Bool → List ℕ) : Type 0 where
-  pub prints : result ≡ Ok 0 → (state : S) (image : List (List ℕ)) (outcomes : List Bool) → stands state → script.last state image outcomes ≡ last image outcomes
+-- where lines were run to their end by a runner that represents some states then, this is what is printed at the end
+pub record IsLast {S : Type 0} (script : Script S) (represents : S → Type 0) (result : Result ℕ Stop) (last : List (List ℕ) → List Bool → List ℕ) : Type 0 where
+  pub prints : result ≡ Ok 0 → (state : S) (image : List (List ℕ)) (outcomes : List Bool) → represents state → script.last state image outcomes ≡ last image outcomes

@@ -7,17 +7,17 @@ use Rattle.report_out.specs.declared.stop.Stop.TheVariants.{Memory}
 use Rattle.line_runner.specs.Script.{Did, Script, run_of}
 
 -- a line was run from a state: what happened in it, what it prints and the state after it are those of its script
-pub record RunsAs {S : Type 0} (did : Did S) (stands : S → Type 0) (trace text : List ℕ) : Type 0 where
+pub record RunsAs {S : Type 0} (did : Did S) (represents : S → Type 0) (trace text : List ℕ) : Type 0 where
   pub traced : trace ≡ did.trace
   pub printed : text ≡ did.text
-  pub state : stands did.state
+  pub state : represents did.state
 
 -- a line was run, the k-th of its script; or it is not in the grammar, and the state is as before; or there was no memory
 abbrev pub RunsLine : {S : Type 0} → Option (ℕ → S → Did S) → ℕ → S → (S → Type 0) → List ℕ → List ℕ → Result Bool Stop → Type 0
-RunsLine (Some does) k state stands trace text (Ok true) = RunsAs (does k state) stands trace text
-RunsLine None k state stands trace text (Ok true) = ⊥
-RunsLine line k state stands trace text (Ok false) = (line ≡ None) × stands state
-RunsLine line k state stands trace text (Err e) = e ≡ Memory
+RunsLine (Some does) k state represents trace text (Ok true) = RunsAs (does k state) represents trace text
+RunsLine None k state represents trace text (Ok true) = ⊥
+RunsLine line k state represents trace text (Ok false) = (line ≡ None) × represents state
+RunsLine line k state represents trace text (Err e) = e ≡ Memory
 
 -- what a watch was shown in a run of a script on an input: all of the run's, or, where it stopped, a part of it
 pub record ShowsOn {S : Type 0} (script : Script S) (traces : Bool) (s : SourceView) (w w2 : Option (List ℕ)) (status : ℕ) : Type 0 where

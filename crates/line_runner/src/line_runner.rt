@@ -20,8 +20,8 @@ pub trait LineRunner: Sized {
     /// What the lines do.
     ghost script: { Script Self.State };
 
-    /// The state that it stands for.
-    ghost stands: { Self → Self.State → Type 0 };
+    /// The states that it represents.
+    ghost represents: { Self → Self.State → Type 0 };
 
     /// The trace of the last line, what it printed behind it, and the disk under the machine.
     ghost traced: { Self → List ℕ };
@@ -36,7 +36,7 @@ pub trait LineRunner: Sized {
 
     /// Runs a line, the `number`-th of its script. False, and nothing happens, where it is not in the grammar.
     fn run_line(&mut self, alloc: Global, number: u32, line: &[u8]) -> Result<bool, Stop>
-        ensures runs { (state : Self.State) → stands self.old state → RunsLine (script.line line.now) number state (stands self.new) (traced self.new) (printed self.new) result }
+        ensures runs { (state : Self.State) → represents self.old state → RunsLine (script.line line.now) number state (represents self.new) (traced self.new) (printed self.new) result }
         ensures disk { under self.new ≡ under self.old };
 
     /// The trace of the last line.
@@ -49,7 +49,7 @@ pub trait LineRunner: Sized {
 
     /// The bytes that the console was given.
     fn console(&self) -> &[u8]
-        ensures { (state : Self.State) (image : List (List ℕ)) (outcomes : List Bool) → stands self.now state → script.last state image outcomes ≡ end_text [] result.now image outcomes };
+        ensures { (state : Self.State) (image : List (List ℕ)) (outcomes : List Bool) → represents self.now state → script.last state image outcomes ≡ end_text [] result.now image outcomes };
 
     /// The disk that was under the machine.
     fn into_disk(self) -> Self::Disk

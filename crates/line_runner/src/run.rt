@@ -22,7 +22,7 @@ pub fn run_lines<L: LineRunner, S: Source, K: Sink, W: Watch>(
     sink: &mut K,
     watch: &mut W,
 ) -> Ended<L::Disk>
-    requires { (sectors : List (List ℕ)) (read_only : Bool) → L.stands runner (L.script.start sectors read_only) }
+    requires { (sectors : List (List ℕ)) (read_only : Bool) → L.represents runner (L.script.start sectors read_only) }
     ensures reports { ReportsOn (reporting L.script traces) (ending L.script) (S.view source.old) (S.view source.new) (K.view sink.old) (K.view sink.new) (L.under runner) (L.Disk.view result.disk) result.status }
     ensures shows { ShowsOn L.script traces (S.view source.old) (W.shown watch.old) (W.shown watch.new) result.status }
 {

@@ -85,7 +85,7 @@ impl<L: LineRunner> Runner<L> {
         requires few { self.old.number ≤ LONGEST_SCRIPT + 1 }
         requires spare { LINE_SPARE ≤ self.old.text.spare + length self.old.text.bytes }
         ensures reads { ReadsNext (S.view source.old) (S.view source.new) self.old.reader self.new.reader result }
-        ensures runs { (state : L.State) → L.stands self.old.lines state → RunsNext L.script (S.view source.old) (S.view source.new) self.old.reader self.new.reader state (L.stands self.new.lines) (L.traced self.new.lines) (L.printed self.new.lines) self.new.text.bytes result }
+        ensures runs { (state : L.State) → L.represents self.old.lines state → RunsNext L.script (S.view source.old) (S.view source.new) self.old.reader self.new.reader state (L.represents self.new.lines) (L.traced self.new.lines) (L.printed self.new.lines) self.new.text.bytes result }
         ensures number { self.new.number ≡ self.new.reader.number }
         ensures spare { LINE_SPARE ≤ self.new.text.spare + length self.new.text.bytes }
         ensures disk { L.under self.new.lines ≡ L.under self.old.lines }
@@ -137,9 +137,9 @@ impl<L: LineRunner> Runner<L> {
         watch: &mut W,
     ) -> Result<u8, Stop>
         requires new { IsNew self.old.reader self.old.number }
-        requires start { (sectors : List (List ℕ)) (read_only : Bool) → L.stands self.old.lines (L.script.start sectors read_only) }
+        requires start { (sectors : List (List ℕ)) (read_only : Bool) → L.represents self.old.lines (L.script.start sectors read_only) }
         requires spare { LINE_SPARE ≤ self.old.text.spare + length self.old.text.bytes }
-        ensures runs { (last : List (List ℕ) → List Bool → List ℕ) → IsLast L.script (L.stands self.new.lines) result last → RunsLines L.script traces last (S.view source.old) (S.view source.new) (K.view sink.old) (K.view sink.new) (W.shown watch.old) (W.shown watch.new) result }
+        ensures runs { (last : List (List ℕ) → List Bool → List ℕ) → IsLast L.script (L.represents self.new.lines) result last → RunsLines L.script traces last (S.view source.old) (S.view source.new) (K.view sink.old) (K.view sink.new) (W.shown watch.old) (W.shown watch.new) result }
         ensures spare { LINE_SPARE ≤ self.new.text.spare + length self.new.text.bytes }
         ensures disk { L.under self.new.lines ≡ L.under self.old.lines }
     {
@@ -171,7 +171,7 @@ impl<L: LineRunner> Runner<L> {
         watch: &mut W,
     ) -> Result<u8, Stop>
         requires new { IsNew self.old.reader self.old.number }
-        requires start { (sectors : List (List ℕ)) (read_only : Bool) → L.stands self.old.lines (L.script.start sectors read_only) }
+        requires start { (sectors : List (List ℕ)) (read_only : Bool) → L.represents self.old.lines (L.script.start sectors read_only) }
         requires spare { LINE_SPARE ≤ self.old.text.spare + length self.old.text.bytes }
         ensures runs { RunsLines L.script traces disk_text (S.view source.old) (S.view source.new) (K.view sink.old) (K.view sink.new) (W.shown watch.old) (W.shown watch.new) result }
         ensures spare { LINE_SPARE ≤ self.new.text.spare + length self.new.text.bytes }
@@ -198,7 +198,7 @@ impl<L: LineRunner> Runner<L> {
         watch: &mut W,
     ) -> Ended<L::Disk>
         requires new { IsNew self.reader self.number }
-        requires start { (sectors : List (List ℕ)) (read_only : Bool) → L.stands self.lines (L.script.start sectors read_only) }
+        requires start { (sectors : List (List ℕ)) (read_only : Bool) → L.represents self.lines (L.script.start sectors read_only) }
         requires spare { LINE_SPARE ≤ self.text.spare + length self.text.bytes }
         ensures reports { ReportsOn (reporting L.script traces) (ending L.script) (S.view source.old) (S.view source.new) (K.view sink.old) (K.view sink.new) (L.under self.lines) (L.Disk.view result.disk) result.status }
         ensures shows { ShowsOn L.script traces (S.view source.old) (W.shown watch.old) (W.shown watch.new) result.status }

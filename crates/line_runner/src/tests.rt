@@ -25,7 +25,7 @@ impl LineRunner for Echo {
 
     ghost script = { record { start = λ sectors read_only. tt; line = λ line. if length line == 1 then Some (λ k state. record { trace = line; text = line ++ line; state = tt }) else None; last = λ state sectors outcomes. end_text [] [] sectors outcomes } };
 
-    ghost stands = { λ echo state. Unit };
+    ghost represents = { λ echo state. Unit };
 
     ghost traced = { λ echo. echo.trace };
 

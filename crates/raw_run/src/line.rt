@@ -93,7 +93,7 @@ impl<B: Bus + Drop, D: Disk> LineRunner for RawLines<B, D> {
 
     ghost script = { raw_script B.table };
 
-    ghost stands = { λ l raw. l.machine.raw ≡ raw };
+    ghost represents = { λ l raw. l.machine.raw ≡ raw };
 
     ghost traced = { λ _. [] };
 

@@ -5,6 +5,7 @@ use Rattle.std.proofs.Math.Nat.{mod-lt}
 use Rattle.std.proofs.lemmas.Bool.{or_left, or_right, eq-eqb}
 use Rattle.std.proofs.lemmas.List.Sums.{sum_by-take-drop}
 use Rattle.std.proofs.lemmas.List.Elements.{All-nil, All-cons, All-head, All-tail, All-weaker}
+use Rattle.vt_types.specs.Limits.{LONGEST_BUFFER}
 use Rattle.vt_types.specs.Operation.{PostedBuffer}
 use Rattle.vq_common.specs.Buffer.{IsPostable}
 use Rattle.vq_common.specs.declared.chain.RingCfg.{RingCfg}
@@ -20,10 +21,10 @@ use Rattle.ring_part.specs.Locations.{Owns, AtData, OwnedBy}
 use Rattle.ring_part.proofs.PutLocations.{elements_in}
 
 -- the readable bytes and the room of a buffer together are at most 8,192
-pub room_fits : (b : PostedBuffer) → IsPostable b → length b.readable + room_of b ≤ 8192
+pub room_fits : (b : PostedBuffer) → IsPostable b → length b.readable + room_of b ≤ LONGEST_BUFFER
 room_fits b h =
     let readable : length b.readable ≡ sum (take b.readable_pieces b.lengths) = h.readable in
-    let total : sum b.lengths ≤ 8192 = h.total in
+    let total : sum b.lengths ≤ LONGEST_BUFFER = h.total in
     let both : sum (take b.readable_pieces b.lengths) + sum (drop b.readable_pieces b.lengths) ≡ sum b.lengths = sum_by-take-drop (λ x. x) b.lengths b.readable_pieces in
     omega (arith, readable, total, both)
 

@@ -6,6 +6,7 @@ use Rattle.std.proofs.lemmas.Bool.{false≢true, cases_order, or_left, eq-eqb}
 use Rattle.std.proofs.lemmas.List.{map-append}
 use Rattle.std.proofs.lemmas.List.Elements.{All-cons, All-head, All-tail, All-append, All-push}
 use Rattle.byteorder.specs.Endian.{little_bytes}
+use Rattle.vt_types.specs.Limits.{LONGEST_BUFFER}
 use Rattle.guest_mem.specs.Memory.{part as bytes_at, put_at, Apart}
 use Rattle.guest_mem.proofs.Ranges.{Apart-swapped, Apart-inside}
 use Rattle.vq_common.specs.declared.chain.RingCfg.{RingCfg}
@@ -236,7 +237,7 @@ module _ {mem : List ℕ} {a : AbstractQueue} {d : DeviceQueue} {q : DriverQueue
 
   scattered : scatter mem chain.pieces written ≡ put_at mem at_written written
   scattered =
-      let block = owned_inside q.base h.head (data_address q.base h.head) 8192 head_low (AtData (omega arith) (omega arith)) in
+      let block = owned_inside q.base h.head (data_address q.base h.head) LONGEST_BUFFER head_low (AtData (omega arith) (omega arith)) in
       let total = can_here.postable.total in
       scatter_is_put mem (data_address q.base h.head) h.buffer.readable_pieces h.buffer.lengths written few (omega (arith, part.block.inside, block.ends, total))
       ∙ ap (λ n. put_at mem (data_address q.base h.head + n) written) (sym can_here.postable.readable)

@@ -2,6 +2,7 @@
 use Rattle.std.proofs.Common.{◌≡◌, ℕ, ◌+◌, ◌*◌, ◌<◌, ◌≤◌, List, [], ◌∷◌, ◌++◌, length, eqb, IsTrue, inl, inr, refl, sym, ◌∙◌, subst, arith}
 use Rattle.std.specs.Prelude.{All}
 use Rattle.std.proofs.lemmas.Bool.{cases_Bool, cond-true, cond-false, eq-eqb, or_left}
+use Rattle.vt_types.specs.Limits.{LONGEST_BUFFER}
 use Rattle.guest_mem.specs.Memory.{part as bytes_at, put_at, Apart}
 use Rattle.guest_mem.proofs.Parts.{part-put_at_same}
 use Rattle.vt_types.specs.Access.{AccessValue, Put}
@@ -91,9 +92,9 @@ module _ (q : DriverQueue) (h : Held) (can : CanStand q.cfg h) (below : All (λ 
   pub held_apart : AllApart (data_of ++ chain_puts q b locations)
   held_apart =
       let (apart, inside) = chain_apart in
-      let at_data : AllIn (IsInside (data_address q.base h.head) 8192) data_of = at_within (data_address q.base h.head) 8192 data_of (data_within (data_address q.base h.head) 8192 b.readable (readable-le b can.postable)) in
+      let at_data : AllIn (IsInside (data_address q.base h.head) LONGEST_BUFFER) data_of = at_within (data_address q.base h.head) LONGEST_BUFFER data_of (data_within (data_address q.base h.head) LONGEST_BUFFER b.readable (readable-le b can.postable)) in
       apart-append data_of (chain_puts q b locations) (data_apart (data_address q.base h.head) b.readable) apart
-      (all_in-weaker (IsInside (data_address q.base h.head) 8192) (λ addr count. AllIn (Apart addr count) (chain_puts q b locations)) (λ addr count is. apart_from addr count q.base 0x400000 (chain_puts q b locations) (inr (omega (arith, is.starts))) inside)
+      (all_in-weaker (IsInside (data_address q.base h.head) LONGEST_BUFFER) (λ addr count. AllIn (Apart addr count) (chain_puts q b locations)) (λ addr count is. apart_from addr count q.base 0x400000 (chain_puts q b locations) (inr (omega (arith, is.starts))) inside)
       data_of at_data)
 
   pub front_apart : (entry : ℕ) (bytes : List ℕ) → length bytes ≡ 2 → q.base + 0x4000 ≤ entry → entry + 2 ≤ q.base + 0x20000 → AllApart ((data_of ++ chain_puts q b locations) ++ Put entry bytes ∷ [])

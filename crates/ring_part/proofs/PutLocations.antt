@@ -6,6 +6,7 @@ use Rattle.std.proofs.lemmas.Bool.{cases_Bool, cond-true, cond-false, or_left, o
 use Rattle.std.proofs.lemmas.List.Elements.{All-head, All-tail}
 use Rattle.vt_types.specs.Access.{AccessValue, Put}
 use Rattle.byteorder.specs.Endian.{little_bytes}
+use Rattle.vt_types.specs.Limits.{LONGEST_BUFFER}
 use Rattle.abstract_devices.specs.World.{SignalMode}
 use Rattle.vt_types.specs.Operation.{PostedBuffer}
 use Rattle.vq_common.specs.declared.chain.RingCfg.{RingCfg}
@@ -40,7 +41,7 @@ puts_owned base ks (n ∷ ns) (d ∷ ds) few part = (
 )
 
 -- data that is put belongs to its head
-data_owned : (base : ℕ) (ks : List ℕ) (n : ℕ) (bytes : List ℕ) → is_in n ks ≡ true → length bytes ≤ 8192 → AllIn (OwnedBy base ks) (data_puts (data_address base n) bytes)
+data_owned : (base : ℕ) (ks : List ℕ) (n : ℕ) (bytes : List ℕ) → is_in n ks ≡ true → length bytes ≤ LONGEST_BUFFER → AllIn (OwnedBy base ks) (data_puts (data_address base n) bytes)
 data_owned base ks n [] m few = tt
 data_owned base ks n (byte ∷ bytes) m few = ((n, m, AtData (omega arith) (omega arith)), tt)
 

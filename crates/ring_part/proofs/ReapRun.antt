@@ -4,6 +4,7 @@ use Rattle.std.specs.Prelude.{◌==◌, nat_le, replicate, if◌then◌else◌}
 use Rattle.std.proofs.Math.Nat.{mod-lt}
 use Rattle.std.proofs.lemmas.Bool.{cases_Bool, cond-true, cond-false, eq-eqb, ne_eqb, le-leb}
 use Rattle.byteorder.specs.Endian.{little_bytes, little_number}
+use Rattle.vt_types.specs.Limits.{LONGEST_BUFFER}
 use Rattle.guest_mem.specs.Memory.{part as bytes_at, put_at, le16_at}
 use Rattle.guest_mem.proofs.Parts.{length-part, length-put_at, part-put_at_apart}
 use Rattle.guest_mem.proofs.Ranges.{Apart-swapped}
@@ -121,7 +122,7 @@ module _ {mem : List ℕ} {a : AbstractQueue} {d : DeviceQueue} {q : DriverQueue
       ∙ ap (λ (bytes : List ℕ). runs (named bytes) mem) (whole 8 element (length-part mem location 8 fits))
       ∙ ap (λ (n : ℕ). runs (reap_element q n (unreaped_with (little_number 4 element) q.unreaped)) mem) f.len
       ∙ ap (λ (o : Option Unreaped). runs (reap_element q (length u.written) o) mem) (ap (λ (n : ℕ). unreaped_with n q.unreaped) f.id ∙ f.found)
-      ∙ ap by (cond-true (nat_le (length u.written) 8192) (reap_bytes split_reaped used_event_put q v (length u.written)) (reap_nothing q) (le-leb (length u.written) 8192 f.few))
+      ∙ ap by (cond-true (nat_le (length u.written) LONGEST_BUFFER) (reap_bytes split_reaped used_event_put q v (length u.written)) (reap_nothing q) (le-leb (length u.written) LONGEST_BUFFER f.few))
       ∙ run-bytes q v (length u.written) u.written mem f.inside refl f.bytes
       ∙ run-end q v (reaped_of u) mem event
 

@@ -7,6 +7,7 @@ use Rattle.std.proofs.lemmas.Bool.{cond-true, cond-false, or_left, eq-eqb}
 use Rattle.std.proofs.lemmas.List.Elements.{All-head, All-tail}
 use Rattle.byteorder.specs.Endian.{little_bytes, little_number}
 use Rattle.byteorder.specs.Numbers.{little_number-reads_back}
+use Rattle.vt_types.specs.Limits.{LONGEST_BUFFER}
 use Rattle.guest_mem.specs.Memory.{part as bytes_at, put_at, le16_at, Apart}
 use Rattle.guest_mem.proofs.Fields.{length-little_bytes, little_number-little_bytes}
 use Rattle.guest_mem.proofs.Parts.{length-put_at, part-put_at_apart, part-put_at_same}
@@ -42,7 +43,7 @@ pub record Finds (mem : List ℕ) (d : DeviceQueue) (q : DriverQueue) (u : UsedH
   pub id : little_number 4 (bytes_at mem (element_at q.base q.cfg.size q.used) 8) ≡ u.held.head
   pub len : little_number 4 (drop 4 (bytes_at mem (element_at q.base q.cfg.size q.used) 8)) ≡ length u.written
   pub found : unreaped_with u.held.head q.unreaped ≡ Some (unreaped_of u.held)
-  pub few : length u.written ≤ 8192
+  pub few : length u.written ≤ LONGEST_BUFFER
   pub bytes : bytes_at mem (data_address q.base u.held.head + length u.held.buffer.readable) (length u.written) ≡ u.written
   pub inside : data_address q.base u.held.head + length u.held.buffer.readable + length u.written ≤ length mem
 
@@ -61,7 +62,7 @@ module _ {mem : List ℕ} {a : AbstractQueue} {d : DeviceQueue} {q : DriverQueue
   can : CanStand q.cfg u.held
   can = All-head (CanStand q.cfg) u.held (held_of used ++ (taken ++ waiting)) part.buffers.each
 
-  few : length u.written ≤ 8192
+  few : length u.written ≤ LONGEST_BUFFER
   few = omega (arith, (All-head FitsRoom u used part.buffers.fit).room, room_fits u.held.buffer can.postable)
 
   head_low : u.held.head < q.cfg.size

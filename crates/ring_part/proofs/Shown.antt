@@ -3,6 +3,7 @@ use Rattle.std.proofs.Common.{◌≡◌, ℕ, ◌+◌, ◌-◌, ◌*◌, ◌%◌
 use Rattle.std.specs.Prelude.{All, sum}
 use Rattle.std.proofs.lemmas.Bool.{or_left}
 use Rattle.std.proofs.lemmas.List.Elements.{All-head}
+use Rattle.vt_types.specs.Limits.{LONGEST_BUFFER}
 use Rattle.guest_mem.specs.Memory.{part as bytes_at, le16_at}
 use Rattle.vt_types.specs.Operation.{PostedBuffer}
 use Rattle.vq_common.specs.declared.chain.Piece.{Piece}
@@ -90,7 +91,7 @@ module _ {mem : List ℕ} {a : AbstractQueue} {d : DeviceQueue} {q : DriverQueue
       let (bytes, chain_puts_stand) = hold-parts (data_puts location b.readable) (chain_puts (new_driver_queue q.cfg q.base) b (h.head ∷ h.others)) mem here in
       let chain : IsChain mem q b h.head = chain_stands mem q h part.block can below low fitting chain_puts_stand in
       let inside : q.base + 0x1000000 ≤ length mem = part.block.inside in
-      let total : sum b.lengths ≤ 8192 = can.postable.total in
+      let total : sum b.lengths ≤ LONGEST_BUFFER = can.postable.total in
       let head : h.head < q.cfg.size = All-head (λ k. k < q.cfg.size) h.head h.others below in
       let size : d.cfg.size ≡ q.cfg.size = ap (λ (c : RingCfg). c.size) part.same.ring in
       let desc : d.cfg.desc ≡ q.base = ap (λ (c : RingCfg). c.desc) part.same.ring ∙ part.block.in_block.desc in

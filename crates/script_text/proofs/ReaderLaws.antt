@@ -81,8 +81,8 @@ last_of : (now : ReaderView) (left : List ℕ) → now.ended ≡ true → positi
 last_of now left ended none few =
     rw (ended, append-nil now.held) (lines_last now.held (LONGEST_SCRIPT - now.answered) [] few (not_found feeds now.held none))
 
--- where a call stands: nothing was answered yet, the input stays, and the first bytes held have no line feed
-pub record Stands (old now : ReaderView) (source source2 : SourceView) (searched : ℕ) : Type 0 where
+-- while a call looks for its line: nothing was answered yet, the input stays, and the first bytes held have no line feed
+pub record IsSearching (old now : ReaderView) (source source2 : SourceView) (searched : ℕ) : Type 0 where
   pub answered : now.answered ≡ old.answered
   pub number : now.number ≡ old.number
   pub input : (left : List ℕ) → source.left ≡ Some left → (left2 : List ℕ) × (source2.left ≡ Some left2) × (input_left now left2 ≡ input_left old left)
@@ -124,21 +124,21 @@ line_next (Err Long) old now new len left left2 answered input at h =
       stays_at old now new left left2 answered input h.2,
     )
 
-pub line_told : (r : Result (Option ℕ) NextFault) (old now new : ReaderView) (source source2 : SourceView) (len searched : ℕ) → Stands old now source source2 searched
+pub line_told : (r : Result (Option ℕ) NextFault) (old now new : ReaderView) (source source2 : SourceView) (len searched : ℕ) → IsSearching old now source source2 searched
     → position feeds now.held ≡ Some len → AnswersLine len (len + 1) r now new → Answers source.left source2.left r old new
-line_told r old now new source source2 len searched stands at h = λ left told.
-    let (left2, e, input) = stands.input left told in
-    (left2, e, line_next r old now new len left left2 stands.answered input at h)
+line_told r old now new source source2 len searched searching at h = λ left told.
+    let (left2, e, input) = searching.input left told in
+    (left2, e, line_next r old now new len left left2 searching.answered input at h)
 
 -- too many bytes
-pub over_told : (old now : ReaderView) (source source2 : SourceView) (searched : ℕ) → Stands old now source source2 searched
+pub over_told : (old now : ReaderView) (source source2 : SourceView) (searched : ℕ) → IsSearching old now source source2 searched
     → position feeds now.held ≡ None → LONGEST_SCRIPT - now.answered < length now.held → Answers source.left source2.left (Err TooLong) old now
-over_told old now source source2 searched stands none long = λ left told.
-    let (left2, e, input) = stands.input left told in
+over_told old now source source2 searched searching none long = λ left told.
+    let (left2, e, input) = searching.input left told in
     let past = not_found feeds now.held none in (
       left2,
       e,
-      (same_lines old now left left2 stands.answered input ∙ over_of now left2 long (omega arith), stays_at old now now left left2 stands.answered input refl),
+      (same_lines old now left left2 searching.answered input ∙ over_of now left2 long (omega arith), stays_at old now now left left2 searching.answered input refl),
     )
 
 -- the last line, or none
@@ -176,11 +176,11 @@ rest_next (Err Long) old now new left left2 answered input ended none few h =
       stays_at old now new left left2 answered input h.2,
     )
 
-pub rest_told : (r : Result (Option ℕ) NextFault) (old now new : ReaderView) (source source2 : SourceView) (searched : ℕ) → Stands old now source source2 searched
+pub rest_told : (r : Result (Option ℕ) NextFault) (old now new : ReaderView) (source source2 : SourceView) (searched : ℕ) → IsSearching old now source source2 searched
     → now.ended ≡ true → position feeds now.held ≡ None → length now.held ≤ LONGEST_SCRIPT - now.answered → AnswersRest r now new → Answers source.left source2.left r old new
-rest_told r old now new source source2 searched stands ended none few h = λ left told.
-    let (left2, e, input) = stands.input left told in
-    (left2, e, rest_next r old now new left left2 stands.answered input ended none few h)
+rest_told r old now new source source2 searched searching ended none few h = λ left told.
+    let (left2, e, input) = searching.input left told in
+    (left2, e, rest_next r old now new left left2 searching.answered input ended none few h)
 
 -- each read brings bytes, or the end
 abbrev pub left_to_read : ReaderView → ℕ

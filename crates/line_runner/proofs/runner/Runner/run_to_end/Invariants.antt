@@ -9,7 +9,7 @@ invariant-lines g l = record {
   counted : l.self.number ≤ l.self.reader.answered;
   spare : 33024 ≤ l.self.text.spare + length l.self.text.bytes;
   disk : g.L.LineRunner.under l.self.lines ≡ g.L.LineRunner.under l.fn.self.lines;
-  reached : Reaches g.L.LineRunner.script l.traces (g.S.Source.view l.fn.source) (g.S.Source.view l.source) (g.K.Sink.view l.fn.sink) (g.K.Sink.view l.sink) (g.W.Watch.shown l.fn.watch) (g.W.Watch.shown l.watch) l.self.reader (g.L.LineRunner.stands l.self.lines);
+  reached : Reaches g.L.LineRunner.script l.traces (g.S.Source.view l.fn.source) (g.S.Source.view l.source) (g.K.Sink.view l.fn.sink) (g.K.Sink.view l.sink) (g.W.Watch.shown l.fn.watch) (g.W.Watch.shown l.watch) l.self.reader (g.L.LineRunner.represents l.self.lines);
 }
 
 abbrev pub decreases-lines : goal.decreases-lines

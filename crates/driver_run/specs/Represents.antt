@@ -9,7 +9,7 @@ use Rattle.interleaving.specs.Safe.{Relation}
 use Rattle.driver_run.specs.DrivenScript.{Halves}
 
 -- a machine, and what its driver keeps, are those of two related halves; no device that is there has sent a frame
-pub record Stands {R : Type 0} (rel : Relation R) (machine : MachineView R) (kept : DriverRecord) (h : Halves R) : Type 0 where
+pub record Represents {R : Type 0} (rel : Relation R) (machine : MachineView R) (kept : DriverRecord) (h : Halves R) : Type 0 where
   pub raw : machine.raw ≡ h.raw
   pub known : kept ≡ h.known
   pub related : rel h.world h.raw h.known
