@@ -1,6 +1,6 @@
 //! The set of devices.
 
-ghost use Rattle.std.specs.Prelude.{◌≡◌, ℕ, ◌+◌, ◌-◌, ◌≤◌, ◌<◌, ◌&&◌, not, [], false, true, None, Some, IfOk, IfErr, IfSome, OnOk, OnErr, MatchOption, length, slice_get};
+ghost use Rattle.std.specs.Prelude.{◌≡◌, ℕ, ◌+◌, ◌-◌, ◌≤◌, ◌<◌, ◌&&◌, not, [], false, true, None, Some, IfOk, IfErr, IfSome, IsOk, OnOk, OnErr, MatchOption, length, max, slice_get};
 ghost use Rattle.vt_outside.specs.Disk.{Called, Reads};
 ghost use Rattle.vt_outside.specs.DiskCall.{peek_call};
 ghost use Rattle.vt_outside.specs.Meets.{Meets, bytes_read};
@@ -83,12 +83,15 @@ impl<D: Disk> DeviceSet<D> {
         })
     }
 
-    /// Sees to it that the console has at least `CONSOLE_SPARE` spare bytes.
+    /// Sees to it that the console has at least `CONSOLE_SPARE` spare bytes, and no more than it had or these. Where it has so
+    /// many it does not answer `Memory`.
     pub fn reserve(&mut self, alloc: Global) -> Result<(), Memory>
         ensures devices { self.new.devices ≡ self.old.devices }
         ensures disk { self.new.disk ≡ self.old.disk }
         ensures spare { self.old.spare ≤ self.new.spare }
+        ensures most { self.new.spare ≤ max self.old.spare CONSOLE_SPARE }
         ensures ok { OnOk result (CONSOLE_SPARE ≤ self.new.spare) }
+        ensures enough { CONSOLE_SPARE ≤ self.old.spare → IsOk result }
     {
         self.state.reserve(alloc)
     }

@@ -52,36 +52,83 @@ fn run_console(rt: &impl Abort, alloc: Global) -> Result<DeviceSet<MemDisk>, Mem
     Ok(set)
 }
 
-fn put(rt: &impl Abort, mem: &mut GuestMem, addr: u64, bytes: &[u8]) {
-    assert!(rt; mem.spare() >= 4 && bytes.len() <= 4096);
-    assert!(rt; mem.write(addr, bytes).is_ok());
+/// The devices and guest memory.
+#[derive(Drop)]
+struct Machine {
+    set: DeviceSet<MemDisk>,
+    mem: GuestMem,
 }
 
-/// Makes one chain of one descriptor available in a queue.
-fn post(rt: &impl Abort, mem: &mut GuestMem, queue: u16, descriptor: &Descriptor) {
-    let ring = cfg(queue, SIZE);
-    put(rt, mem, ring.desc, &descriptor.to_bytes());
-    put(rt, mem, ring.driver, &[0, 0, 1, 0, 0, 0]);
-}
+impl Machine {
+    /// A console that its driver runs, with one chain of one descriptor in a queue, and these flags in the driver area.
+    fn new(
+        rt: &impl Abort,
+        alloc: Global,
+        queue: u16,
+        flags: u8,
+        descriptor: &Descriptor,
+    ) -> Result<Machine, Memory> {
+        let mut machine = Machine {
+            set: run_console(rt, alloc)?,
+            mem: GuestMem::new(alloc, 0x9000)?,
+        };
+        let ring = cfg(queue, SIZE);
+        machine.put(rt, alloc, ring.desc, &descriptor.to_bytes())?;
+        machine.put(rt, alloc, ring.driver, &[flags, 0, 1, 0, 0, 0])?;
+        Ok(machine)
+    }
 
-/// Serves a queue of the console, once what it may take is spare.
-fn serve(
-    alloc: Global,
-    set: &mut DeviceSet<MemDisk>,
-    mem: &mut GuestMem,
-    queue: u16,
-) -> Result<Served, Memory> {
-    set.reserve(alloc)?;
-    mem.reserve(alloc, 20)?;
-    Ok(set.serve(mem, Dev::Con, queue))
+    fn put(
+        &mut self,
+        rt: &impl Abort,
+        alloc: Global,
+        addr: u64,
+        bytes: &[u8],
+    ) -> Result<(), Memory> {
+        self.mem.reserve(alloc, 2)?;
+        assert!(rt; bytes.len() <= 4096);
+        assert!(rt; self.mem.write(addr, bytes).is_ok());
+        Ok(())
+    }
+
+    /// Input comes.
+    fn key(&mut self, rt: &impl Abort, alloc: Global, keys: &[u8]) -> Result<(), Memory> {
+        let mut bytes = Bytes::new(alloc);
+        bytes.extend(alloc, keys)?;
+        assert_eq!(rt; self.set.backend(&Event::Key(bytes)), None);
+        Ok(())
+    }
+
+    /// Serves a queue of the console, once what it may take is spare.
+    fn serve(&mut self, alloc: Global, queue: u16) -> Result<Served, Memory> {
+        self.set.reserve(alloc)?;
+        self.mem.reserve(alloc, 20)?;
+        Ok(self.set.serve(&mut self.mem, Dev::Con, queue))
+    }
+
+    /// Sees that guest memory has these bytes at an address.
+    fn shows(&self, rt: &impl Abort, addr: u64, bytes: &[u8]) {
+        let mut room = [9u8; 12];
+        assert!(rt; bytes.len() <= 12);
+        let room = &mut room[..bytes.len()];
+        assert_eq!(rt; self.mem.read(addr, room), Ok(()));
+        assert!(rt; *room == *bytes);
+    }
 }
 
 #[test]
-fn brings_a_console_up(rt: HostRuntime) -> Result<(), Fail> {
-    let mut set = new_set(&rt, rt.alloc())?;
-    assert_eq!(rt; set.offered(Dev::Con, 0), 0x3000_0005);
-    assert_eq!(rt; set.offered(Dev::Con, 1), 1);
+fn offers_features_and_queues(rt: HostRuntime) -> Result<(), Fail> {
+    let set = new_set(&rt, rt.alloc())?;
+    for (index, word) in [(0, 0x3000_0005), (1, 1), (2, 0)] {
+        assert_eq!(rt; set.offered(Dev::Con, index), word);
+    }
     assert_eq!(rt; set.queues(Dev::Con), 2);
+    Ok(())
+}
+
+#[test]
+fn accepts_features(rt: HostRuntime) -> Result<(), Fail> {
+    let mut set = new_set(&rt, rt.alloc())?;
     for (value, is_kept, status) in [(1, true, 0x01), (3, true, 0x03), (0x0b, false, 0x03)] {
         assert_eq!(rt; set.write_status(Dev::Con, value), is_kept);
         assert_eq!(rt; set.status(Dev::Con), status);
@@ -89,6 +136,12 @@ fn brings_a_console_up(rt: HostRuntime) -> Result<(), Fail> {
     set.accept(Dev::Con, 1, 1);
     assert_eq!(rt; set.accepted(Dev::Con), Features::VERSION_1);
     assert!(rt; set.write_status(Dev::Con, 0x0b));
+    Ok(())
+}
+
+#[test]
+fn sets_queues(rt: HostRuntime) -> Result<(), Fail> {
+    let mut set = new_set(&rt, rt.alloc())?;
     for (queue, size, is_new) in [
         (2, 8, false),
         (1, 3, false),
@@ -101,6 +154,12 @@ fn brings_a_console_up(rt: HostRuntime) -> Result<(), Fail> {
     assert!(rt; set.is_set(Dev::Con, 1));
     set.unset_queue(Dev::Con, 1);
     assert!(rt; !set.is_set(Dev::Con, 1));
+    Ok(())
+}
+
+#[test]
+fn a_reset_keeps_the_generation(rt: HostRuntime) -> Result<(), Fail> {
+    let mut set = run_console(&rt, rt.alloc())?;
     let size = Event::Consize {
         cols: 132,
         rows: 43,
@@ -115,101 +174,89 @@ fn brings_a_console_up(rt: HostRuntime) -> Result<(), Fail> {
 
 #[test]
 fn has_a_configuration(rt: HostRuntime) -> Result<(), Fail> {
-    let mut set = new_set(&rt, rt.alloc())?;
+    let set = new_set(&rt, rt.alloc())?;
     let mut start = [9u8; 4];
     set.read_config(Dev::Con, 0, &mut start);
     assert_eq!(rt; start, [0x50, 0, 0x19, 0]);
     let mut rest = [9u8; 12];
     set.read_config(Dev::Con, 2, &mut rest);
     assert_eq!(rt; rest, [0x19, 0, 1, 0, 0, 0, 0, 0, 0, 0, 0, 0]);
-    set.reserve(rt.alloc())?;
-    set.write_config(Dev::Con, 8, &[b'!', 1, 2, 3]);
-    assert_eq!(rt; set.console(), b"!".as_slice());
-    set.reserve(rt.alloc())?;
-    set.write_config(Dev::Con, 8, b"?");
-    assert_eq!(rt; set.console(), b"!".as_slice());
     Ok(())
 }
 
 #[test]
-fn serves_both_queues(rt: HostRuntime) -> Result<(), Fail> {
-    let mut set = run_console(&rt, rt.alloc())?;
-    let mut mem = GuestMem::new(rt.alloc(), 0x9000)?;
-    mem.reserve(rt.alloc(), 32)?;
-    put(&rt, &mut mem, DATA, b"hello");
+fn writes_in_an_emergency(rt: HostRuntime) -> Result<(), Fail> {
+    let mut set = new_set(&rt, rt.alloc())?;
+    for bytes in [&[b'!', 1, 2, 3][..], b"?"] {
+        set.reserve(rt.alloc())?;
+        set.write_config(Dev::Con, 8, bytes);
+        assert_eq!(rt; set.console(), b"!".as_slice());
+    }
+    Ok(())
+}
+
+#[test]
+fn serves_the_transmit_queue(rt: HostRuntime) -> Result<(), Fail> {
     let hello = Descriptor {
         addr: DATA,
         len: 5,
         flags: 0,
         next: 0,
     };
-    post(&rt, &mut mem, TRANSMIT, &hello);
-    assert_eq!(rt;
-        serve(rt.alloc(), &mut set, &mut mem, TRANSMIT)?,
-        Served::Idle
-    );
-    set.kick(Dev::Con, TRANSMIT);
-    assert_eq!(rt;
-        serve(rt.alloc(), &mut set, &mut mem, TRANSMIT)?,
-        Served::Signal
-    );
-    assert_eq!(rt; set.console(), b"hello".as_slice());
-    assert_eq!(rt;
-        serve(rt.alloc(), &mut set, &mut mem, TRANSMIT)?,
-        Served::Idle
-    );
+    let mut machine = Machine::new(&rt, rt.alloc(), TRANSMIT, 0, &hello)?;
+    machine.put(&rt, rt.alloc(), DATA, b"hello")?;
+    for (is_kicked, served) in [
+        (false, Served::Idle),
+        (true, Served::Signal),
+        (false, Served::Idle),
+    ] {
+        if is_kicked {
+            machine.set.kick(Dev::Con, TRANSMIT);
+        }
+        assert_eq!(rt; machine.serve(rt.alloc(), TRANSMIT)?, served);
+    }
+    assert_eq!(rt; machine.set.console(), b"hello".as_slice());
+    Ok(())
+}
+
+#[test]
+fn serves_the_receive_queue(rt: HostRuntime) -> Result<(), Fail> {
     let room = Descriptor {
         addr: DATA,
         len: 2,
         flags: 2,
         next: 0,
     };
-    mem.reserve(rt.alloc(), 32)?;
-    post(&rt, &mut mem, RECEIVE, &room);
-    put(&rt, &mut mem, cfg(RECEIVE, SIZE).driver, &[1, 0]);
-    set.kick(Dev::Con, RECEIVE);
-    assert_eq!(rt;
-        serve(rt.alloc(), &mut set, &mut mem, RECEIVE)?,
-        Served::Idle
-    );
-    let mut keys = Bytes::new(rt.alloc());
-    keys.extend(rt.alloc(), b"abc")?;
-    assert_eq!(rt; set.backend(&Event::Key(keys)), None);
-    assert_eq!(rt;
-        serve(rt.alloc(), &mut set, &mut mem, RECEIVE)?,
-        Served::Quiet
-    );
-    let mut data = [0u8; 5];
-    assert_eq!(rt; mem.read(DATA, &mut data), Ok(()));
-    assert_eq!(rt; data, *b"abllo");
-    let mut used = [9u8; 12];
-    assert_eq!(rt; mem.read(cfg(RECEIVE, SIZE).device, &mut used), Ok(()));
-    assert_eq!(rt; used, [0, 0, 1, 0, 0, 0, 0, 0, 2, 0, 0, 0]);
+    let mut machine = Machine::new(&rt, rt.alloc(), RECEIVE, 1, &room)?;
+    machine.set.kick(Dev::Con, RECEIVE);
+    for (keys, served) in [(&b""[..], Served::Idle), (b"abc", Served::Quiet)] {
+        machine.key(&rt, rt.alloc(), keys)?;
+        assert_eq!(rt; machine.serve(rt.alloc(), RECEIVE)?, served);
+    }
+    let used = cfg(RECEIVE, SIZE).device;
+    for (addr, bytes) in [
+        (DATA, &b"ab\0"[..]),
+        (used, &[0, 0, 1, 0, 0, 0, 0, 0, 2, 0, 0, 0]),
+    ] {
+        machine.shows(&rt, addr, bytes);
+    }
     Ok(())
 }
 
 #[test]
 fn a_malformed_chain_wants_a_reset(rt: HostRuntime) -> Result<(), Fail> {
-    let mut set = run_console(&rt, rt.alloc())?;
-    let mut mem = GuestMem::new(rt.alloc(), 0x9000)?;
-    mem.reserve(rt.alloc(), 32)?;
     let nothing = Descriptor {
         addr: DATA,
         len: 0,
         flags: 0,
         next: 0,
     };
-    post(&rt, &mut mem, TRANSMIT, &nothing);
-    set.kick(Dev::Con, TRANSMIT);
-    assert_eq!(rt;
-        serve(rt.alloc(), &mut set, &mut mem, TRANSMIT)?,
-        Served::Bad
-    );
-    assert_eq!(rt; set.status(Dev::Con), 0x4f);
-    assert_eq!(rt;
-        serve(rt.alloc(), &mut set, &mut mem, TRANSMIT)?,
-        Served::Idle
-    );
+    let mut machine = Machine::new(&rt, rt.alloc(), TRANSMIT, 0, &nothing)?;
+    machine.set.kick(Dev::Con, TRANSMIT);
+    for served in [Served::Bad, Served::Idle] {
+        assert_eq!(rt; machine.serve(rt.alloc(), TRANSMIT)?, served);
+        assert_eq!(rt; machine.set.status(Dev::Con), 0x4f);
+    }
     Ok(())
 }
 
