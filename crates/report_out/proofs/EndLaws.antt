@@ -128,20 +128,3 @@ disk_ended n image outcomes e = ap (λ z. z ++ codes "end\n") (disk_listed n ima
 
 pub disk_told : (n : ℕ) (image : List (List ℕ)) (outcomes : List Bool) → length image ≡ n → IsPrefixOf (disk_line n ++ lines_below n image outcomes) (disk_text image outcomes)
 disk_told n image outcomes e = (codes "end\n", disk_ended n image outcomes e)
-
--- the end parts of a run that sent no frame: the console's text was sent, and then the disk's, or a part of it
-pub end_sent : (console : List ℕ) (d d2 : DiskView) (k k1 k2 : SinkView) (r : Result Unit Stop) → Sends k k1 (console_text console) (Ok tt) → SendsDisk disk_text d.count d d2 k1 k2 r
-    → SendsDisk (end_text [] console) d.count d d2 k k2 r
-end_sent console d d2 k k1 k2 r told h =
-    disk_as (λ image outcomes. console_text console ++ disk_text image (drop 0 outcomes)) (end_text [] console) (0 + d.count) d.count _ _ _ _ _
-    (omega arith)
-    (λ image outcomes is. refl)
-    (disk_then (λ image outcomes. console_text console) disk_text 0 d.count _ _ _ _ _ _ _ (disk_unasked (console_text console) _ _ _ _ told) h)
-
--- a part of the console's text was sent, and the disk was not asked
-pub end_opened : (console : List ℕ) (n : ℕ) (d : DiskView) (k k2 : SinkView) (stop : Stop) → Sends k k2 (console_text console) (Err stop) → SendsDisk (end_text [] console) n d d k k2 (Err stop)
-end_opened console n d k k2 stop told =
-    disk_front (λ image outcomes. console_text console) (end_text [] console) 0 n _ _ _ _ _
-    (omega arith)
-    (λ image outcomes is. prefix_append (console_text console) (disk_text image outcomes))
-    (disk_unasked (console_text console) _ _ _ _ told)
