@@ -11,7 +11,7 @@ use Rattle.script_run.specs.declared.command.Command.{Command}
 
 -- where the words are not in the grammar: the usage line; the source is as before
 pub record ShowsUsage (s s2 : SourceView) (d d2 : DiskView) (status : ℕ) (text : List ℕ) : Type 0 where
-  pub answers : (status ≡ 2) ⊎ ((status ≡ 5) ⊎ (status ≡ 6))
+  pub answers : (status ≡ 2) ⊎ (status ≡ 5)
   pub writes : Written status text usage
   pub source : s2 ≡ s
   pub disk : d2 ≡ d
