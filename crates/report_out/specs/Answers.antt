@@ -16,7 +16,7 @@ Stopped status = (status ≡ 4) ⊎ ((status ≡ 5) ⊎ (status ≡ 6))
 abbrev pub Written : ℕ → List ℕ → List ℕ → Type 0
 Written status text whole = IsPrefixOf text whole × (Stopped status ⊎ (text ≡ whole))
 
--- where a source told what was left, its bytes from some place on are left now, and the place is within a bound
+-- where a source told what was left, all but its first bytes are left now, and these are within a bound
 abbrev pub TakesAtMost : ℕ → Option (List ℕ) → Option (List ℕ) → Type 0
 TakesAtMost most before after = (left : List ℕ) → before ≡ Some left → (n : ℕ) × (n ≤ most) × (after ≡ Some (drop n left))
 
