@@ -15,6 +15,7 @@ import sys
 from timing import OPENING, built_program, file_of, peak, script, seconds
 
 RUNS = 5
+LONG = 100_000
 LINES = [30_000, 100_000, 300_000]
 
 # The numbers of operations of a script on both queues, and its rounds: those without events in a gap have them on lines of
@@ -65,9 +66,12 @@ CASES = [
 
 
 def seconds_more(vt, before, after):
-    """The time that a script takes more than its first lines alone do: the median of runs in turn."""
+    """The time that a script takes more than its first lines alone do: the median of runs in turn. A short script takes little
+    beside the start of the program, so it runs the more often.
+    """
+    runs = RUNS * max(1, LONG // len(after))
     with file_of(script(before)) as first, file_of(script(before + after)) as whole:
-        return statistics.median(seconds(vt, whole) - seconds(vt, first) for _ in range(RUNS))
+        return statistics.median(seconds(vt, whole) - seconds(vt, first) for _ in range(runs))
 
 
 def lines_of(rounds, count):
