@@ -38,7 +38,7 @@ use Rattle.interleaving.proofs.MemoryRules.{safe_onward}
 use Rattle.interleaving.proofs.ProgramRules.{safe_as, safe_ended, safe_false, safe_true}
 use Rattle.interleaving.proofs.RefusalRules.{refusal_by}
 use Rattle.mmio_simulation.specs.Bus.{mmio}
-use Rattle.mmio_simulation.specs.Related.{Related}
+use Rattle.mmio_simulation.specs.Related.{ConsoleContent, Related, console_of}
 use Rattle.mmio_simulation.proofs.EventRegisters.{ConfigurationAfter, KeepsConfiguration, Moved, Still, event_configuration}
 use Rattle.mmio_simulation.proofs.EventsKeep.{related_kept}
 use Rattle.mmio_simulation.proofs.RefusedAlike.{allowed_at}
@@ -175,7 +175,7 @@ module _ (known : DriverRecord) where
         → SafeFrom (value_read known bytes) n w v answer raw
     value_safe allowed bytes {w = w} {raw = raw} h is =
         let same : field_bytes w field ≡ bytes
-        = sym (part.reads w) ∙ sym (ap (λ (cols : ℕ). part_read p cols raw.devices.rows) h.console.cols ∙ ap (part_read p w.cols) h.console.rows) ∙ is
+        = sym (part.reads w) ∙ sym (ap (λ (c : ConsoleContent). part_read p c.cols c.rows) h.console) ∙ is
         in
         safe_mark_as (allowed_at (ReadConfig Con field) refl h allowed) (safe_ended (related_kept known) (ap reply.Value same) h)
 
@@ -229,14 +229,10 @@ byte_written {w = w} value small h = record {
   device = h.device;
   queues = h.queues;
   count = h.count;
-  console = record {
-    cols = h.console.cols;
-    rows = h.console.rows;
-    waiting = h.console.waiting;
-    console =
-        let byte : value % 256 ≡ value = omega (arith, small) in
-        ap (λ (bytes : List ℕ). bytes ++ value % 256 ∷ []) h.console.console ∙ ap (λ (byte : ℕ). w.console ++ byte ∷ []) byte;
-  };
+  console =
+      let byte : value % 256 ≡ value = omega (arith, small) in
+      ap (λ (c : ConsoleContent). record c { console = c.console ++ value % 256 ∷ [] }) h.console
+      ∙ ap (λ (byte : ℕ). record (console_of w) { console = w.console ++ byte ∷ [] }) byte;
   signals = h.signals;
   memory = h.memory;
 }

@@ -30,7 +30,7 @@ use Rattle.ring_part.specs.RingPart.{RingPart}
 use Rattle.ring_part.proofs.Serve.{Served, served, served_ring, used_front, served_length, served_elsewhere}
 use Rattle.interleaving.specs.Kept.{Kept}
 use Rattle.mmio_simulation.specs.Bus.{mmio}
-use Rattle.mmio_simulation.specs.Related.{UsedFacts, no_facts, SetPartWith, QueuePartWith, EachQueueWith, SignalPart, has_any, bit_if, RelatedWith, Related}
+use Rattle.mmio_simulation.specs.Related.{ConsoleContent, EachQueueWith, QueuePartWith, Related, RelatedWith, SetPartWith, SignalPart, UsedFacts, bit_if, has_any, no_facts}
 use Rattle.mmio_simulation.proofs.Blocks.{blocks_apart}
 use Rattle.mmio_simulation.proofs.PartChanges.{device_kept, kicked_part}
 use Rattle.mmio_simulation.proofs.Queues.{IsSetAt, slice_set-same, each_replaced, queue_framed}
@@ -126,7 +126,7 @@ module _ (F : UsedFacts) {w : World} {raw : Raw MmioRegisters} {known : DriverRe
           device = device_kept r.device.generation r.device;
           queues = queues_kept raw.memory a2 s2 refl (λ b k apart. refl) (kicked_part (F n) raw.memory w.con.status w.con.accepted n a s q false at.here);
           count = length-set w.con.queues n (Some a2) ∙ r.count;
-          console = record { cols = r.console.cols; rows = r.console.rows; waiting = r.console.waiting; console = r.console.console };
+          console = r.console;
           signals = r.signals;
           memory = r.memory;
         }
@@ -154,7 +154,7 @@ module _ (F : UsedFacts) {w : World} {raw : Raw MmioRegisters} {known : DriverRe
                 event_idx = p.event_idx;
               });
           count = length-set w.con.queues n (Some a2) ∙ r.count;
-          console = record { cols = r.console.cols; rows = r.console.rows; waiting = refl; console = refl };
+          console = ap (λ (c : ConsoleContent). record c { waiting = x.waiting; console = x.console }) r.console;
           signals =
               subst (λ (t : Bool). SignalPart (if t then with_number n w.con.signalled else w.con.signalled) w.con.config_changed (with_queue_signal g.signals raw.registers).con) gave.signals
               (queue_signal_kept g.signals n w.con.signalled w.con.config_changed raw.registers r.signals);
@@ -167,7 +167,7 @@ module _ (F : UsedFacts) {w : World} {raw : Raw MmioRegisters} {known : DriverRe
         device = r.device;
         queues = r.queues;
         count = r.count;
-        console = record { cols = r.console.cols; rows = r.console.rows; waiting = ap (λ (waiting : List ℕ). with_input waiting bytes) r.console.waiting; console = r.console.console };
+        console = ap (λ (c : ConsoleContent). record c { waiting = with_input c.waiting bytes }) r.console;
         signals = r.signals;
         memory = r.memory;
       }
@@ -182,7 +182,7 @@ module _ (F : UsedFacts) {w : World} {raw : Raw MmioRegisters} {known : DriverRe
         device = device_kept (mod-lt (raw.devices.con.generation + 1) (omega arith)) r.device;
         queues = r.queues;
         count = r.count;
-        console = record { cols = refl; rows = refl; waiting = r.console.waiting; console = r.console.console };
+        console = ap (λ (c : ConsoleContent). record c { cols = cols; rows = rows }) r.console;
         signals =
             subst (λ (changes : Bool). SignalPart w.con.signalled (w.con.config_changed || changes) (with_config_signal drives raw.registers).con) same
             (config_signal_kept drives w.con.signalled w.con.config_changed raw.registers r.signals);

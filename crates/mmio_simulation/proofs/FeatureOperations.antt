@@ -140,7 +140,7 @@ module _ (known : DriverRecord) (features : ℕ) (driven : known.con.status ≡ 
     };
     queues = h.queues;
     count = h.count;
-    console = record { cols = h.console.cols; rows = h.console.rows; waiting = h.console.waiting; console = h.console.console };
+    console = h.console;
     signals = h.signals;
     memory = h.memory;
   }
@@ -186,7 +186,7 @@ module _ (known : DriverRecord) (features : ℕ) (driven : known.con.status ≡ 
     queues =
         at_status h w.con.status features (λ agreed. absurd (none_agreed h agreed));
     count = h.count;
-    console = record { cols = h.console.cols; rows = h.console.rows; waiting = h.console.waiting; console = h.console.console };
+    console = h.console;
     signals = h.signals;
     memory = h.memory;
   }

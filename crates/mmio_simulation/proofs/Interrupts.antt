@@ -79,7 +79,7 @@ signals_told signalled changed status is h = record {
   device = device_kept h.device.generation h.device;
   queues = h.queues;
   count = h.count;
-  console = record { cols = h.console.cols; rows = h.console.rows; waiting = h.console.waiting; console = h.console.console };
+  console = h.console;
   signals = record { status = is; queues = h.signals.queues };
   memory = h.memory;
 }

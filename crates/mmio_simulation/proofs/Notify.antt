@@ -64,7 +64,7 @@ module _ {w : World} {raw : Raw MmioRegisters} {known : DriverRecord} (h : Relat
         (slice_set-same known.con.queues n (Some q) at.at.in_record)
         (queue_located h n (Some (kicked_queue at.a)) (kicked_state at.s) (Some q) (kicked_part (no_facts n) raw.memory w.con.status w.con.accepted n at.a at.s q true at.at.here));
     count = length-set w.con.queues n (Some (kicked_queue at.a)) ∙ h.count;
-    console = record { cols = h.console.cols; rows = h.console.rows; waiting = h.console.waiting; console = h.console.console };
+    console = h.console;
     signals = h.signals;
     memory = h.memory;
   }

@@ -17,7 +17,7 @@ page_changed p interrupts count h = record {
   device = h.device;
   queues = h.queues;
   count = h.count;
-  console = record { cols = h.console.cols; rows = h.console.rows; waiting = h.console.waiting; console = h.console.console };
+  console = h.console;
   signals = record { status = interrupts ∙ h.signals.status; queues = count ∙ h.signals.queues };
   memory = h.memory;
 }

@@ -34,7 +34,7 @@ module _ (F G : UsedFacts) (w : World) (raw : Raw MmioRegisters) (known : Driver
         device = device_kept r.device.generation r.device;
         queues = queues_changed a2 q2 set;
         count = length-set w.con.queues n (Some a2) ∙ r.count;
-        console = record { cols = r.console.cols; rows = r.console.rows; waiting = r.console.waiting; console = r.console.console };
+        console = r.console;
         signals = r.signals;
         memory = changes.long ∙ r.memory;
       }

@@ -32,7 +32,7 @@ use Rattle.ring_part.specs.Held.{Held, UsedHeld, available_of, chain_of_held}
 use Rattle.ring_part.specs.RingPart.{RingPart}
 use Rattle.ring_part.proofs.Shown.{Shows, shown, shown_empty}
 use Rattle.ring_part.proofs.Serve.{served_ring}
-use Rattle.mmio_simulation.specs.Related.{IsStep, BeforeAll, Acknowledged, Driven, Agreed, Running, UsedFacts, QueuePartWith, RelatedWith}
+use Rattle.mmio_simulation.specs.Related.{Acknowledged, Agreed, BeforeAll, ConsoleContent, Driven, IsStep, QueuePartWith, RelatedWith, Running, UsedFacts}
 use Rattle.mmio_simulation.proofs.Queues.{Found, IsSetAt, NoSuchQueue, Queue, found_in}
 
 -- the registers once a queue signalled, or did not
@@ -183,7 +183,7 @@ module _ (M : World → Raw MmioRegisters → Type 0) (F : UsedFacts) (n : ℕ) 
   by_part (Some a) s (Some q) in_world in_raw in_record part =
       let at : IsSetAt F w raw known n a s q = record { in_world = in_world; in_raw = in_raw; in_record = in_record; here = part } in
       by_serve_of_set M n w raw a s part.ring q part.rests.used stays (ends a s q at) (answers a s q at) part.rests.waiting
-      (record { is_set = part.is_set; kick = part.kick; waiting = r.console.waiting; console = r.console.console; status = r.device.status; step = r.device.step; part = part.rests.part })
+      (record { is_set = part.is_set; kick = part.kick; waiting = ap (λ (c : ConsoleContent). c.waiting) r.console; console = ap (λ (c : ConsoleContent). c.console) r.console; status = r.device.status; step = r.device.step; part = part.rests.part })
   by_part None s (Some q) in_world in_raw in_record part = absurd part
   by_part (Some a) s None in_world in_raw in_record part = absurd part
 

@@ -304,7 +304,7 @@ module _ (known : DriverRecord) (n size : ℕ) (may : MaySet known n size) where
           device = device_kept r.device.generation r.device;
           queues = queue_located r n (Some (new_queue w.con size)) state (Some queue_record) set_part;
           count = length-set w.con.queues n (Some (new_queue w.con size)) ∙ r.count;
-          console = record { cols = r.console.cols; rows = r.console.rows; waiting = r.console.waiting; console = r.console.console };
+          console = r.console;
           signals = r.signals;
           memory = r.memory;
         }

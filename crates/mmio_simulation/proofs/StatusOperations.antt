@@ -61,7 +61,7 @@ module _ {w : World} {raw : Raw MmioRegisters} {known : DriverRecord} (h : Relat
     };
     queues = h.queues;
     count = h.count;
-    console = record { cols = h.console.cols; rows = h.console.rows; waiting = h.console.waiting; console = h.console.console };
+    console = h.console;
     signals = h.signals;
     memory = h.memory;
   }
@@ -108,7 +108,7 @@ module _ {w : World} {raw : Raw MmioRegisters} {known : DriverRecord} (h : Relat
     };
     queues = subst (λ (count : ℕ). EachQueue raw.memory 0 0 0 (replicate 2 None) (replicate count device.unset) (replicate 2 None)) (sym two_queues) (no_queue, (no_queue, tt));
     count = refl;
-    console = record { cols = h.console.cols; rows = h.console.rows; waiting = h.console.waiting; console = h.console.console };
+    console = h.console;
     signals = record { status = refl; queues = length-replicate (length raw.registers.con.queues) new_queue_registers ∙ h.signals.queues };
     memory = h.memory;
   }
@@ -142,7 +142,7 @@ module _ {w : World} {raw : Raw MmioRegisters} {known : DriverRecord} (h : Relat
       };
       queues = at_status h new_status w.con.accepted (λ agreed. (new.agreed agreed, refl));
       count = h.count;
-      console = record { cols = h.console.cols; rows = h.console.rows; waiting = h.console.waiting; console = h.console.console };
+      console = h.console;
       signals = h.signals;
       memory = h.memory;
     }

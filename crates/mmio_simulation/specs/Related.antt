@@ -85,12 +85,18 @@ EachQueueWith F mem status accepted n [] (s ∷ ss) qs = ⊥
 EachQueueWith F mem status accepted n (a ∷ bs) [] qs = ⊥
 EachQueueWith F mem status accepted n (a ∷ bs) (s ∷ ss) [] = ⊥
 
--- the console's size, its waiting input and its bytes
-pub record ConsolePart (w : World) (s : Devices) : Type 0 where
-  pub cols : s.cols ≡ w.cols
-  pub rows : s.rows ≡ w.rows
-  pub waiting : s.waiting ≡ w.waiting
-  pub console : s.console ≡ w.console
+-- the console's size, its waiting input and its bytes, in each half
+pub record ConsoleContent : Type 0 where
+  pub cols : ℕ
+  pub rows : ℕ
+  pub waiting : List ℕ
+  pub console : List ℕ
+
+abbrev pub console_of : World → ConsoleContent
+console_of w = record { cols = w.cols; rows = w.rows; waiting = w.waiting; console = w.console }
+
+abbrev pub console_in : Devices → ConsoleContent
+console_in s = record { cols = s.cols; rows = s.rows; waiting = s.waiting; console = s.console }
 
 -- the signal part of MMIO: one bit for all queues that signalled, and one for a changed configuration
 abbrev pub has_any : List ℕ → Bool
@@ -110,7 +116,7 @@ pub record RelatedWith (F : UsedFacts) (w : World) (raw : Raw MmioRegisters) (kn
   pub device : DevicePart w.con raw.devices.con known.con
   pub queues : EachQueueWith F raw.memory w.con.status w.con.accepted 0 w.con.queues raw.devices.con.queues known.con.queues
   pub count : length w.con.queues ≡ 2
-  pub console : ConsolePart w raw.devices
+  pub console : console_in raw.devices ≡ console_of w
   pub signals : SignalPart w.con.signalled w.con.config_changed raw.registers.con
   pub memory : length raw.memory ≡ MEMORY_LENGTH
 
