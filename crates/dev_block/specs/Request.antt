@@ -1,7 +1,7 @@
 use Rattle.std.specs.Prelude.{ℕ, zero, suc, ◌+◌, ◌==◌, List, [], ◌∷◌, drop, Bool, true, false, Option, Some, None, if◌then◌else◌}
-use Rattle.std.specs.Int.RustNames.{bit_and}
 use Rattle.byteorder.specs.Endian.{little_number}
 use Rattle.guest_mem.specs.Memory.{part}
+use Rattle.dev_status.specs.Status.{has_bits}
 use Rattle.vt_types.specs.Features.{BLK_FLUSH, BLK_CONFIG_WCE, BLK_DISCARD, BLK_WRITE_ZEROES}
 use Rattle.dev_block.specs.declared.request.Header.{Header}
 use Rattle.dev_block.specs.declared.request.RequestType.{RequestType}
@@ -31,14 +31,10 @@ VIRTIO_BLK_T_WRITE_ZEROES = 13
 abbrev pub VIRTIO_BLK_WRITE_ZEROES_FLAG_UNMAP : ℕ
 VIRTIO_BLK_WRITE_ZEROES_FLAG_UNMAP = 1
 
--- a number has this bit
-abbrev pub has_feature : ℕ → ℕ → Bool
-has_feature accepted bit = bit_and accepted bit == bit
-
 -- the cache mode: 0 is write-through, else written sectors last only once they are flushed. The driver sets it where
 -- CONFIG_WCE was accepted; else it goes by FLUSH (5.2.5.2)
 abbrev pub cache_mode : ℕ → ℕ → ℕ
-cache_mode writeback accepted = if has_feature accepted BLK_CONFIG_WCE then writeback else if has_feature accepted BLK_FLUSH then 1 else 0
+cache_mode writeback accepted = if has_bits accepted BLK_CONFIG_WCE then writeback else if has_bits accepted BLK_FLUSH then 1 else 0
 
 -- the header of a request, in its first 16 bytes: le32 type, le32 reserved (which is not looked at), le64 sector (5.2.6)
 abbrev pub header_in : List ℕ → Header
@@ -63,10 +59,10 @@ type_of number =
 abbrev pub is_supported : RequestType → ℕ → Bool
 is_supported In accepted = true
 is_supported Out accepted = true
-is_supported Flush accepted = has_feature accepted BLK_FLUSH
+is_supported Flush accepted = has_bits accepted BLK_FLUSH
 is_supported GetId accepted = true
-is_supported Discard accepted = has_feature accepted BLK_DISCARD
-is_supported WriteZeroes accepted = has_feature accepted BLK_WRITE_ZEROES
+is_supported Discard accepted = has_bits accepted BLK_DISCARD
+is_supported WriteZeroes accepted = has_bits accepted BLK_WRITE_ZEROES
 
 -- the types that change the disk
 abbrev pub is_change : RequestType → Bool

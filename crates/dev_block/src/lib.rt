@@ -7,8 +7,6 @@ mod request;
 mod sectors;
 mod serve;
 mod state;
-#[cfg(test)]
-mod tests;
 
 pub use serve::serve_chain;
 pub use state::BlkState;

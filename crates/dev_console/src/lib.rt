@@ -4,8 +4,6 @@
 
 mod serve;
 mod state;
-#[cfg(test)]
-mod tests;
 
 pub use serve::serve_chain;
 pub use state::{CONSOLE_SPARE, ConState, MOST_WAITING, limits_are_defined};

@@ -12,8 +12,6 @@ mod ring;
 mod serve;
 mod served;
 mod set;
-#[cfg(test)]
-mod tests;
 mod there;
 
 pub use bus::Bus;

@@ -5,8 +5,6 @@
 mod sent;
 mod serve;
 mod state;
-#[cfg(test)]
-mod tests;
 
 pub use serve::serve_chain;
 pub use state::{FRAMES_SPARE, MOST_WAITING, NetState, limits_are_defined};

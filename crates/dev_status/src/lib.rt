@@ -3,7 +3,5 @@
 #![tactic(auto)]
 
 mod machine;
-#[cfg(test)]
-mod tests;
 
 pub use machine::StatusMachine;

@@ -22,9 +22,6 @@ use std::marker::Model;
 use vq_common::RingCfg;
 use vt_types::{Dev, Features, Field, Memory, Op, Port, PostBuf, Reply, Room, Status, Step, Why};
 
-#[cfg(test)]
-mod tests;
-
 /// What a driver keeps of a device: whether it was probed, and reset since; the status that it read last; the features that
 /// it accepted; and its queues.
 #[derive(Drop)]

@@ -18,9 +18,6 @@ use drv_core::{BusDriver, Driver, device_of};
 use std::alloc::Global;
 use vt_types::{Memory, Op, Port, Reply, Room};
 
-#[cfg(test)]
-mod tests;
-
 /// The driver of all devices over MMIO.
 #[derive(Drop)]
 pub struct MmioDriver {

@@ -9,8 +9,6 @@
 mod arena;
 mod guest;
 mod paging;
-#[cfg(test)]
-mod tests;
 
 pub use guest::GuestMem;
 use std::alloc::AllocError;

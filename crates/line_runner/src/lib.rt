@@ -4,8 +4,6 @@
 mod line_runner;
 mod run;
 mod runner;
-#[cfg(test)]
-mod tests;
 
 pub use line_runner::LineRunner;
 pub use run::run_lines;

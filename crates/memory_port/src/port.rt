@@ -4,9 +4,6 @@ use crate::memory::access;
 use guest_mem::GuestMem;
 use vt_types::{Access, Answer, Port, Room};
 
-#[cfg(test)]
-mod tests;
-
 /// Guest memory as a driver's port. An access of another kind answers `NoSuch`; a mark changes nothing. Its credit is the
 /// spare pages of its memory, so reserve pages for the accesses to come.
 #[derive(Drop)]

@@ -7,7 +7,5 @@ mod bus;
 mod config;
 mod console_page;
 mod page;
-#[cfg(test)]
-mod tests;
 
 pub use bus::MmioBus;

@@ -2,7 +2,5 @@
 #![tactic(auto)]
 
 mod simulation;
-#[cfg(test)]
-mod tests;
 
 pub use simulation::MmioSimulation;

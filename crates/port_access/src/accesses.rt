@@ -12,9 +12,6 @@ ghost use Rattle.port_access.specs.Accesses.{bytes_program, data_puts, get_bytes
 use byteorder::{ByteOrder, LittleEndian};
 use vt_types::{Access, Answer, Port, Room};
 
-#[cfg(test)]
-mod tests;
-
 /// Puts 1 to `LONGEST_BUFFER` bytes; nobody looks at the answer.
 #[inline(always)]
 pub fn put<P: Port>(port: &mut P, addr: u64, bytes: &[u8], room: &mut Room)

@@ -3,7 +3,5 @@
 
 mod line;
 mod run;
-#[cfg(test)]
-mod tests;
 
 pub use run::run_raw;

@@ -8,8 +8,6 @@
 mod ended;
 mod output;
 mod stop;
-#[cfg(test)]
-mod tests;
 
 pub use ended::Ended;
 pub use output::{send, send_console, send_disk};

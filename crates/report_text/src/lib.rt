@@ -10,8 +10,6 @@ mod end;
 mod event;
 mod lengths;
 mod reply;
-#[cfg(test)]
-mod tests;
 mod text;
 mod words;
 

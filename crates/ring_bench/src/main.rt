@@ -6,8 +6,6 @@ mod guest;
 mod host;
 mod rings;
 mod task;
-#[cfg(test)]
-mod tests;
 
 use counts::Counts;
 use rings::Rings;

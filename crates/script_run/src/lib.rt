@@ -3,8 +3,6 @@
 #![tactic(auto)]
 
 mod command;
-#[cfg(test)]
-mod tests;
 mod top_call;
 
 pub use report_out::Ended;

@@ -18,8 +18,6 @@ mod operation;
 mod post;
 mod raw;
 mod reader;
-#[cfg(test)]
-mod tests;
 mod words;
 
 pub use fault::LineFault;

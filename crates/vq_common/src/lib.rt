@@ -15,8 +15,6 @@ mod partial;
 mod pieces;
 mod position;
 mod rules;
-#[cfg(test)]
-mod tests;
 mod walk;
 
 pub use chain::{Chain, Piece, RingCfg, Take};

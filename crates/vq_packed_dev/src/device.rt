@@ -13,9 +13,6 @@ use std::marker::Model;
 use vq_common::area::{le16_at, put};
 use vq_common::{Chain, DeviceEnd, PackedFlags, Position, RingCfg, Take, event};
 
-#[cfg(test)]
-mod tests;
-
 /// The device's end of a packed virtqueue: the ring's configuration, the position where the next chain is taken, and
 /// the one where the next used descriptor is written.
 #[derive(Drop)]

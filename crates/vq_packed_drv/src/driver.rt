@@ -147,6 +147,3 @@ impl DriverEnd for PackedDriver {
 
     ghost cost = { cost };
 }
-
-#[cfg(test)]
-mod tests;

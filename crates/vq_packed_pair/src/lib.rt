@@ -17,9 +17,6 @@ use vq_common::{DriverEnd, Full};
 use vq_packed_drv::PackedDriver;
 use vt_types::PostBuf;
 
-#[cfg(test)]
-mod tests;
-
 /// Posts a buffer over guest memory, in which the queue block lies whole; the buffer is indirect only where the ring
 /// has INDIRECT_DESC, and the pages that its accesses may make are spare. `Full` comes exactly where the buffer's slots
 /// exceed the free ones, and changes nothing. Else, once the chains before it are taken, the buffer is the chain that

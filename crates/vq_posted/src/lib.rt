@@ -8,8 +8,6 @@
 mod entry;
 mod number_set;
 mod table;
-#[cfg(test)]
-mod tests;
 
 pub use entry::{Found, Posted, head};
 pub use table::PostedBuffers;

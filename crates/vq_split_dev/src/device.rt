@@ -14,9 +14,6 @@ use std::marker::Model;
 use vq_common::area::{le16_at, put, put_le16};
 use vq_common::{AvailableFlags, Chain, DeviceEnd, RingCfg, Take, ring_location};
 
-#[cfg(test)]
-mod tests;
-
 /// The device's end of a split virtqueue: the ring's configuration, the number of heads that were taken and the number
 /// of chains that were given back, both modulo 2^16.
 #[derive(Drop)]

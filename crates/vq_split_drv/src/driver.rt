@@ -150,6 +150,3 @@ impl DriverEnd for SplitDriver {
 
     ghost cost = { cost };
 }
-
-#[cfg(test)]
-mod tests;

@@ -9,8 +9,6 @@ mod lookup;
 mod mmio;
 pub mod queue_block;
 mod register;
-#[cfg(test)]
-mod tests;
 
 pub use fields::{ConfigPart, field_parts};
 pub use interrupts::InterruptBits;

@@ -27,6 +27,3 @@ pub use operation::{Event, EventAt, Field, Op, Place, PostBuf, Step};
 pub use port::Port;
 pub use reply::{Reply, Why};
 pub use status::Status;
-
-#[cfg(test)]
-mod tests;

@@ -1,6 +1,0 @@
-use Rattle.std.proofs.Common.{refl, lit<}
-use Rattle.drv_core.proofs.device.tests.refusals_of_queues.Goals as goal
-
-pub set_queue-requires-clause-in_block : goal.set_queue-requires-clause-in_block
-set_queue-requires-clause-in_block g c =
-    record { block = record { number = 3; known = lit< tt; location = refl }; desc = refl; driver = refl; device = refl }
