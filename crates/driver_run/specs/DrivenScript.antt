@@ -1,4 +1,4 @@
-use Rattle.std.specs.Prelude.{ℕ, List, [], Bool}
+use Rattle.std.specs.Prelude.{ℕ, List, [], Bool, Some, None}
 use Rattle.std.specs.Option.{option_map}
 use Rattle.vt_types.specs.declared.operation.EventAt.{EventAt}
 use Rattle.vt_types.specs.Operation.{Operation}
@@ -10,6 +10,7 @@ use Rattle.drv_core.specs.Driver.{DriverRecord, new_record}
 use Rattle.interleaving.specs.BusDefinition.{BusDefinition, trace_of}
 use Rattle.script_text.specs.Line.{Spelled, Nothing, Happens, Asks, script_line}
 use Rattle.report_text.specs.Reply.{reply_line}
+use Rattle.report_out.specs.Report.{Blank, Event, Asked}
 use Rattle.report_out.specs.EndText.{end_text}
 use Rattle.line_runner.specs.Script.{Did, Script}
 use Rattle.driver_run.specs.There.{if_there}
@@ -27,16 +28,17 @@ operation_does bus op events k h =
     let t = trace_of bus h.raw h.known op events in
     let o = placed_line bus.kind h.world op events t.place in
     record {
-      trace = happening_lines t.happenings;
-      text = reply_line k o.reply t.place t.count;
+      told = record { kind = Asked; trace = happening_lines t.happenings; text = reply_line k o.reply t.place t.count; accesses = Some t.count };
       state = record { world = o.world; raw = t.raw; known = t.result.known };
     }
 
 -- what a line of a script does on a bus: an event between operations happens in both halves, and prints nothing
 abbrev pub line_does : {R : Type 0} → BusDefinition R → Spelled (Operation × List EventAt) → ℕ → Halves R → Did (Halves R)
-line_does bus Nothing k h = record { trace = []; text = []; state = h }
-line_does bus (Happens e) k h =
-    record { trace = []; text = []; state = record { world = happen h.world e; raw = raw_event bus.table h.raw e; known = h.known } }
+line_does bus Nothing k h = record { told = record { kind = Blank; trace = []; text = []; accesses = None }; state = h }
+line_does bus (Happens e) k h = record {
+  told = record { kind = Event; trace = []; text = []; accesses = None };
+  state = record { world = happen h.world e; raw = raw_event bus.table h.raw e; known = h.known };
+}
 line_does bus (Asks asked) k h = operation_does bus asked.0 asked.1 k h
 
 -- both halves at the start

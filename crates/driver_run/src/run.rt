@@ -25,8 +25,8 @@ pub fn run_script<M: Simulation, S: Source, K: Sink, D: Disk, W: Watch>(
     disk: D,
     watch: &mut W,
 ) -> Ended<D>
-    ensures reports { ReportsOn (reporting (driven_script (driven M.Bus.table M.Driver.lowering M.kind)) traces) (ending (driven_script (driven M.Bus.table M.Driver.lowering M.kind))) (S.view source.old) (S.view source.new) (K.view sink.old) (K.view sink.new) (D.view disk) (D.view result.disk) result.status }
-    ensures shows { ShowsOn (driven_script (driven M.Bus.table M.Driver.lowering M.kind)) traces (S.view source.old) (W.shown watch.old) (W.shown watch.new) result.status }
+    ensures reports { ReportsOn (reporting (driven_script (driven M.Bus.table M.Driver.lowering M.kind))) traces (ending (driven_script (driven M.Bus.table M.Driver.lowering M.kind))) (S.view source.old) (S.view source.new) (K.view sink.old) (K.view sink.new) (D.view disk) (D.view result.disk) result.status }
+    ensures shows { ShowsOn (driven_script (driven M.Bus.table M.Driver.lowering M.kind)) traces (S.view source.old) (K.view sink.old) (K.view sink.new) (W.shown watch.old) (W.shown watch.new) result.status }
 {
     match DrivenLines::<M, D>::new(alloc, disk) {
         Ok(lines) => run_lines(alloc, lines, traces, source, sink, watch),

@@ -1,3 +1,4 @@
 pub mod ReportLaws
 pub mod RunLaws
 pub mod EndLaws
+pub mod StandLaws

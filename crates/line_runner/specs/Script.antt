@@ -1,13 +1,11 @@
-use Rattle.std.specs.Prelude.{ℕ, ◌+◌, List, [], ◌++◌, Bool, Option, Some, None, if◌then◌else◌}
+use Rattle.std.specs.Prelude.{ℕ, ◌+◌, List, [], ◌∷◌, length, Bool, Option, Some, None}
 use Rattle.script_text.specs.Lines.{Lines, NoMore, TooMany, Line, lines_of}
-use Rattle.report_text.specs.EndParts.{fault_line, too_long_line}
 use Rattle.report_out.specs.Answers.{Reporting}
-use Rattle.report_out.specs.Report.{Report, before}
+use Rattle.report_out.specs.Report.{Report, Told, DoneLine, AtEnd, AtBadLine, TooLong, with_lines, without_lines}
 
--- what a line did: the lines of a trace of what happened in it, what it prints behind them, and the state that it left
+-- what a line did: what it tells, and the state after it
 pub record Did (S : Type 0) : Type 0 where
-  pub trace : List ℕ
-  pub text : List ℕ
+  pub told : Told
   pub state : S
 
 -- a kind of script over states: the state at the start, by the sectors of the disk and whether it is read-only; what a line does,
@@ -18,48 +16,30 @@ pub record Script (S : Type 0) : Type 0 where
   pub line : List ℕ → Option (ℕ → S → Did S)
   pub last : S → List (List ℕ) → List Bool → List ℕ
 
--- what a run writes, and what a watch is shown
-pub record Run : Type 0 where
-  pub report : Report
-  pub watched : List ℕ
-
--- a run with what was written and shown before it
-abbrev pub behind : List ℕ → List ℕ → Run → Run
-behind text shown r = record { report = before text r.report; watched = shown ++ r.watched }
-
--- a run that ends here with a text and a status; no line asks the disk, so its image stays
-abbrev pub ended : List ℕ → ℕ → List (List ℕ) → Run
-ended text status image = record { report = record { text = text; status = status; image = image }; watched = [] }
-
--- what a line prints: its trace stands first, where traces are asked for
-abbrev pub printed : {S : Type 0} → Bool → Did S → List ℕ
-printed traces did = (if traces then did.trace else []) ++ did.text
+-- a line that did something, up to this byte of the input
+abbrev pub done_line : {S : Type 0} → ℕ → Did S → DoneLine S
+done_line end did = record { end = end; told = did.told; state = did.state }
 
 -- a line that did something, and then the rest
-abbrev pub did_run : {S : Type 0} → Bool → Did S → (S → Run) → Run
-did_run traces did rest = behind (printed traces did) did.trace (rest did.state)
+abbrev pub did_report : {S : Type 0} → ℕ → Did S → (S → Report S) → Report S
+did_report end did rest = with_lines (done_line end did ∷ []) (rest did.state)
 
--- a line, the k-th of its script, and then the rest; a bad line ends the run
-abbrev pub line_run : {S : Type 0} → Bool → List (List ℕ) → Option (ℕ → S → Did S) → ℕ → S → (S → Run) → Run
-line_run traces image None k state rest = ended (fault_line k) 3 image
-line_run traces image (Some does) k state rest = did_run traces (does k state) rest
+-- a line up to this byte, the k-th of its script, and then the rest; at a bad line the lines end
+abbrev pub line_report : {S : Type 0} → List (List ℕ) → Option (ℕ → S → Did S) → ℕ → ℕ → S → (S → Report S) → Report S
+line_report image None end k state rest = without_lines (AtBadLine k) image
+line_report image (Some does) end k state rest = did_report end (does k state) rest
 
--- the lines behind the first k
-abbrev pub run_from : {S : Type 0} → Script S → Bool → List (List ℕ) → List Bool → Lines → ℕ → S → Run
-run_from script traces image outcomes NoMore k state = ended (script.last state image outcomes) 0 image
-run_from script traces image outcomes TooMany k state = ended too_long_line 7 image
-run_from script traces image outcomes (Line line others) k state =
-    line_run traces image (script.line line) (k + 1) state (λ next. run_from script traces image outcomes others (k + 1) next)
+-- the report of the lines behind the first k, where the next one begins at this byte; no line asks the disk, so its image stays
+abbrev pub report_of : {S : Type 0} → Script S → List (List ℕ) → List Bool → Lines → ℕ → ℕ → S → Report S
+report_of script image outcomes NoMore at k state = without_lines (AtEnd (script.last state image outcomes)) image
+report_of script image outcomes TooMany at k state = without_lines TooLong image
+report_of script image outcomes (Line line others) at k state =
+    line_report image (script.line line) (at + length line) (k + 1) state (λ next. report_of script image outcomes others (at + length line + 1) (k + 1) next)
 
--- the run of a script, with or without traces, from an input, the sectors of a disk, whether it is read-only, and the outcomes of
--- the readings of its sectors (true where one succeeds): one for each sector in the end parts, and past the end of the list each
--- succeeds
-abbrev pub run_of : {S : Type 0} → Script S → Bool → List ℕ → List (List ℕ) → Bool → List Bool → Run
-run_of script traces input sectors read_only outcomes = run_from script traces sectors outcomes (lines_of input) 0 (script.start sectors read_only)
-
--- what it reports
-abbrev pub reporting : {S : Type 0} → Script S → Bool → Reporting
-reporting script traces input sectors read_only outcomes = (run_of script traces input sectors read_only outcomes).report
+-- what a script reports on an input, by the sectors of a disk, whether it is read-only, and the outcomes of the readings of its
+-- sectors (true where one succeeds): one for each sector in the end parts, and past the end of the list each succeeds
+abbrev pub reporting : {S : Type 0} → Script S → Reporting S
+reporting script input sectors read_only outcomes = report_of script sectors outcomes (lines_of input) 0 0 (script.start sectors read_only)
 
 -- how lines end: with 3 at a bad line, with 7 where more bytes came than a script may have, and with 0 at their end
 abbrev pub ending_behind : {S : Type 0} → Option (ℕ → S → Did S) → ℕ → ℕ

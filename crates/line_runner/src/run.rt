@@ -23,8 +23,8 @@ pub fn run_lines<L: LineRunner, S: Source, K: Sink, W: Watch>(
     watch: &mut W,
 ) -> Ended<L::Disk>
     requires { (sectors : List (List ℕ)) (read_only : Bool) → L.represents runner (L.script.start sectors read_only) }
-    ensures reports { ReportsOn (reporting L.script traces) (ending L.script) (S.view source.old) (S.view source.new) (K.view sink.old) (K.view sink.new) (L.under runner) (L.Disk.view result.disk) result.status }
-    ensures shows { ShowsOn L.script traces (S.view source.old) (W.shown watch.old) (W.shown watch.new) result.status }
+    ensures reports { ReportsOn (reporting L.script) traces (ending L.script) (S.view source.old) (S.view source.new) (K.view sink.old) (K.view sink.new) (L.under runner) (L.Disk.view result.disk) result.status }
+    ensures shows { ShowsOn L.script traces (S.view source.old) (K.view sink.old) (K.view sink.new) (W.shown watch.old) (W.shown watch.new) result.status }
 {
     match Runner::<L>::new(alloc, runner) {
         Ok(runner) => runner.run(alloc, traces, source, sink, watch),

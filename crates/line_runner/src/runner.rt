@@ -3,7 +3,7 @@
 ghost use Rattle.std.specs.Prelude.{◌≡◌, ◌+◌, ◌≤◌, length};
 ghost use Rattle.report_text.specs.EndParts.{fault_line};
 ghost use Rattle.report_out.specs.Output.{Sends};
-ghost use Rattle.line_runner.specs.Lines.{line_text};
+ghost use Rattle.report_out.specs.Report.{line_text};
 
 use crate::line_runner::LineRunner;
 use report_out::{Ended, Stop, send, send_console, send_disk};
@@ -52,8 +52,9 @@ impl<L: LineRunner> Runner<L> {
     ghost use Rattle.vt_outside.specs.Watch.{Shows};
     ghost use Rattle.report_out.specs.EndText.{disk_text};
     ghost use Rattle.report_out.specs.Output.{Sends};
+    ghost use Rattle.report_out.specs.Report.{line_text};
     ghost use Rattle.report_out.specs.Reports.{ReportsOn};
-    ghost use Rattle.line_runner.specs.Lines.{IsLast, IsNew, ReadsNext, RunsLines, RunsNext, line_text};
+    ghost use Rattle.line_runner.specs.Lines.{IsLast, IsNew, ReadsNext, RunsLines, RunsNext};
     ghost use Rattle.line_runner.specs.Script.{ending, reporting};
     ghost use Rattle.line_runner.specs.Shows.{ShowsOn};
 
@@ -200,8 +201,8 @@ impl<L: LineRunner> Runner<L> {
         requires new { IsNew self.reader self.number }
         requires start { (sectors : List (List ℕ)) (read_only : Bool) → L.represents self.lines (L.script.start sectors read_only) }
         requires spare { LINE_SPARE ≤ self.text.spare + length self.text.bytes }
-        ensures reports { ReportsOn (reporting L.script traces) (ending L.script) (S.view source.old) (S.view source.new) (K.view sink.old) (K.view sink.new) (L.under self.lines) (L.Disk.view result.disk) result.status }
-        ensures shows { ShowsOn L.script traces (S.view source.old) (W.shown watch.old) (W.shown watch.new) result.status }
+        ensures reports { ReportsOn (reporting L.script) traces (ending L.script) (S.view source.old) (S.view source.new) (K.view sink.old) (K.view sink.new) (L.under self.lines) (L.Disk.view result.disk) result.status }
+        ensures shows { ShowsOn L.script traces (S.view source.old) (K.view sink.old) (K.view sink.new) (W.shown watch.old) (W.shown watch.new) result.status }
     {
         let mut runner = self;
         let ran = runner.run_to_disk(alloc, traces, source, sink, watch);

@@ -5,6 +5,7 @@ use Rattle.dev_core.specs.There.{is_event_there}
 use Rattle.dev_core.specs.Bus.{BusTable, Raw, new_raw, raw_access, raw_event}
 use Rattle.script_text.specs.Line.{Spelled, Nothing, Happens, Asks, raw_line}
 use Rattle.report_text.specs.Access as text
+use Rattle.report_out.specs.Report.{Blank, Event, Asked}
 use Rattle.report_out.specs.EndText.{end_text}
 use Rattle.line_runner.specs.Script.{Did, Script}
 
@@ -17,9 +18,11 @@ if_there (Some (Asks a)) = Some (Asks a)
 
 -- what a line of a raw script does on a bus: an access prints its answer, an event nothing, and nothing is traced
 abbrev pub raw_line_does : {R : Type 0} → BusTable R → Spelled AccessValue → ℕ → Raw R → Did (Raw R)
-raw_line_does bus Nothing k raw = record { trace = []; text = []; state = raw }
-raw_line_does bus (Happens e) k raw = record { trace = []; text = []; state = raw_event bus raw e }
-raw_line_does bus (Asks a) k raw = let r = raw_access bus a raw in record { trace = []; text = text.raw_line k a r.0 r.1; state = r.2 }
+raw_line_does bus Nothing k raw = record { told = record { kind = Blank; trace = []; text = []; accesses = None }; state = raw }
+raw_line_does bus (Happens e) k raw = record { told = record { kind = Event; trace = []; text = []; accesses = None }; state = raw_event bus raw e }
+raw_line_does bus (Asks a) k raw =
+    let r = raw_access bus a raw in
+    record { told = record { kind = Asked; trace = []; text = text.raw_line k a r.0 r.1; accesses = Some 1 }; state = r.2 }
 
 -- the raw scripts of accesses and events, on a bus
 abbrev pub raw_script : {R : Type 0} → BusTable R → Script (Raw R)

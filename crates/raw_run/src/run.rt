@@ -20,7 +20,7 @@ pub fn run_raw<B: Bus + Drop, S: Source, K: Sink, D: Disk>(
     sink: &mut K,
     disk: D,
 ) -> Ended<D>
-    ensures { ReportsOn (reporting (raw_script B.table) false) (ending (raw_script B.table)) (S.view source.old) (S.view source.new) (K.view sink.old) (K.view sink.new) (D.view disk) (D.view result.disk) result.status }
+    ensures { ReportsOn (reporting (raw_script B.table)) false (ending (raw_script B.table)) (S.view source.old) (S.view source.new) (K.view sink.old) (K.view sink.new) (D.view disk) (D.view result.disk) result.status }
 {
     match RawLines::<B, D>::new(alloc, disk) {
         Ok(lines) => run_lines(alloc, lines, false, source, sink, &mut NoWatch),

@@ -13,11 +13,11 @@ use Rattle.report_text.specs.Words.{hex}
 use Rattle.vt_outside.proofs.TextLaws.{prefix_append, prefix_behind, prefix_none, prefix_then}
 use Rattle.report_out.specs.declared.stop.Stop.{Stop}
 use Rattle.report_out.specs.DiskCalls.{IsWhole, SameDisk}
-use Rattle.report_out.specs.EndText.{disk_text, end_text, first_outcome, reading_text, sector_lines}
+use Rattle.report_out.specs.EndText.{disk_text, first_outcome, reading_text, sector_lines}
 use Rattle.report_out.specs.Output.{Sends, SendsDisk}
 use Rattle.report_out.specs.Pieces.{console_text, line_of_sector, lines_below}
 use Rattle.report_out.proofs.OutcomeLaws.{first_taken, outcomes_one}
-use Rattle.report_out.proofs.SendLaws.{all_made, disk_as, disk_front, disk_then, disk_unasked, part_as}
+use Rattle.report_out.proofs.SendLaws.{all_made, part_as}
 
 -- the outcomes behind one more than n
 drop_next : (n : ℕ) (outcomes : List Bool) → drop (suc n) outcomes ≡ drop n (drop 1 outcomes)

@@ -1,5 +1,6 @@
 pub mod DigitLaws
 pub mod EndLaws
+pub mod LineLaws
 pub mod OutcomeLaws
 pub mod ReportsLaw
 pub mod RunLaws

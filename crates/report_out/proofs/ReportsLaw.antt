@@ -7,6 +7,7 @@ use Rattle.vt_outside.specs.Source.{SourceView}
 use Rattle.vt_outside.proofs.TextLaws.{prefix_equal}
 use Rattle.report_out.specs.Answers.{AnswersInput, Reporting, Stopped, Written}
 use Rattle.report_out.specs.Output.{AllOrPart}
+use Rattle.report_out.specs.Report.{text_of, status_of, image_of}
 use Rattle.report_out.specs.Reports.{ReportsOn}
 use Rattle.report_out.specs.Run.{EndsAs, RunCause, RunsInput}
 use Rattle.report_out.specs.Status.{run_status}
@@ -14,7 +15,7 @@ use Rattle.report_out.specs.declared.stop.Stop.{Stop}
 use Rattle.report_out.specs.declared.stop.Stop.TheVariants.{Read, Write, Memory}
 
 -- the status that a stop gives
-stopped : (stop : Stop) → Stopped (run_status (Err stop))
+pub stopped : (stop : Stop) → Stopped (run_status (Err stop))
 stopped Read = inl refl
 stopped Write = inr (inl refl)
 stopped Memory = inr (inr refl)
@@ -82,32 +83,32 @@ sink_stops (Err Write) s s2 k k2 cause = inr refl
 sink_stops (Err Memory) s s2 k k2 cause = inl cause.1
 
 -- the premises on a report: its status is that with which its input ends, and its image the disk's
-pub record IsReport (report : Reporting) (ends : List ℕ → ℕ) : Type 0 where
-  pub status : (input : List ℕ) (sectors : List (List ℕ)) (read_only : Bool) (readings : List Bool) → (report input sectors read_only readings).status ≡ ends input
-  pub image : (input : List ℕ) (sectors : List (List ℕ)) (read_only : Bool) (readings : List Bool) → (report input sectors read_only readings).image ≡ sectors
+pub record IsReport {S : Type 0} (report : Reporting S) (ends : List ℕ → ℕ) : Type 0 where
+  pub status : (input : List ℕ) (sectors : List (List ℕ)) (read_only : Bool) (readings : List Bool) → status_of (report input sectors read_only readings) ≡ ends input
+  pub image : (input : List ℕ) (sectors : List (List ℕ)) (read_only : Bool) (readings : List Bool) → image_of (report input sectors read_only readings) ≡ sectors
 
-pub answers : (report : Reporting) (ends : List ℕ → ℕ) (s s2 : SourceView) (k k2 : SinkView) (d d2 : DiskView) (result : Result ℕ Stop) → IsReport report ends
-    → (r : RunsInput report ends s s2 k k2 d d2 result) → AnswersInput report ends s s2 k k2 d d2 (run_status result) r.text
-answers report ends s s2 k k2 d d2 result is_report r = record {
+pub answers : {S : Type 0} (report : Reporting S) (traces : Bool) (ends : List ℕ → ℕ) (s s2 : SourceView) (k k2 : SinkView) (d d2 : DiskView) (result : Result ℕ Stop) → IsReport report ends
+    → (r : RunsInput report traces ends s s2 k k2 d d2 result) → AnswersInput report traces ends s s2 k k2 d d2 (run_status result) r.text
+answers report traces ends s s2 k k2 d d2 result is_report r = record {
   takes = r.takes;
   answers = λ input is. ended result (ends input) (r.answers input is);
   reads = λ input is zero. read_whole result s2 (r.reads input is) zero;
   outcomes = r.outcomes;
   tells = r.tells;
   calls = r.calls;
-  stops = λ input sectors read_only readings is some. written result r.text (report input sectors read_only readings).text (r.stops input sectors read_only readings is some);
+  stops = λ input sectors read_only readings is some. written result r.text (text_of traces (report input sectors read_only readings)) (r.stops input sectors read_only readings is some);
   reports = λ input image readings is shows are. (
-    written result r.text (report input image d.read_only readings).text (r.reports input image readings is shows are),
-    status_is result (ends input) (report input image d.read_only readings).status (is_report.status input image d.read_only readings) (r.answers input is),
+    written result r.text (text_of traces (report input image d.read_only readings)) (r.reports input image readings is shows are),
+    status_is result (ends input) (status_of (report input image d.read_only readings)) (is_report.status input image d.read_only readings) (r.answers input is),
     r.disk.image ∙ shows ∙ ap (λ (z : List (List ℕ)). Some z) (sym (is_report.image input image d.read_only readings)),
   );
   complete = λ input is whole calm still. complete_of result s s2 k k2 (ends input) r.cause (r.answers input is) whole calm still;
 }
 
 -- an input that was run was reported on
-pub reports_on : (report : Reporting) (ends : List ℕ → ℕ) (s s2 : SourceView) (k k2 : SinkView) (d d2 : DiskView) (result : Result ℕ Stop) → IsReport report ends
-    → RunsInput report ends s s2 k k2 d d2 result → ReportsOn report ends s s2 k k2 d d2 (run_status result)
-reports_on report ends s s2 k k2 d d2 result is_report r = record {
+pub reports_on : {S : Type 0} (report : Reporting S) (traces : Bool) (ends : List ℕ → ℕ) (s s2 : SourceView) (k k2 : SinkView) (d d2 : DiskView) (result : Result ℕ Stop) → IsReport report ends
+    → RunsInput report traces ends s s2 k k2 d d2 result → ReportsOn report traces ends s s2 k k2 d d2 (run_status result)
+reports_on report traces ends s s2 k k2 d d2 result is_report r = record {
   text = r.text;
   written = r.adds;
   disk = r.disk;
@@ -116,5 +117,5 @@ reports_on report ends s s2 k k2 d d2 result is_report r = record {
   source_stops = source_stops result s s2 k k2 r.cause;
   sink_failed = sink_failed result s s2 k k2 r.cause;
   sink_stops = sink_stops result s s2 k k2 r.cause;
-  answers = answers report ends s s2 k k2 d d2 result is_report r;
+  answers = answers report traces ends s s2 k k2 d d2 result is_report r;
 }

@@ -10,6 +10,7 @@ use Rattle.vt_outside.proofs.TextLaws.{prefix_behind, prefix_none}
 use Rattle.report_out.specs.Answers.{Reporting, TakesAtMost}
 use Rattle.report_out.specs.DiskCalls.{AreCallsOf}
 use Rattle.report_out.specs.Output.{SendsDisk, StopCause}
+use Rattle.report_out.specs.Report.{text_of}
 use Rattle.report_out.specs.Run.{RunCause, RunsInput}
 use Rattle.report_out.specs.Status.{run_status}
 use Rattle.report_out.specs.declared.stop.Stop.{Stop}
@@ -56,11 +57,11 @@ send_cause s s2 k k2 Write calm h = (calm, h)
 send_cause s s2 k k2 Memory calm h = absurd h
 
 -- a run stopped before the disk was asked: what it wrote is a front of its report
-pub stopped_unasked : (report : Reporting) (ends : List ℕ → ℕ) (s s2 : SourceView) (k k2 : SinkView) (d : DiskView) (stop : Stop) (text : List ℕ)
+pub stopped_unasked : {S : Type 0} (report : Reporting S) (traces : Bool) (ends : List ℕ → ℕ) (s s2 : SourceView) (k k2 : SinkView) (d : DiskView) (stop : Stop) (text : List ℕ)
     → TakesAtMost (LONGEST_SCRIPT + 1) s.left s2.left → RunCause (Err stop) s s2 k k2 → Adds k.written k2.written text
-    → ((input : List ℕ) (sectors : List (List ℕ)) (read_only : Bool) (readings : List Bool) → s.left ≡ Some input → IsPrefixOf text (report input sectors read_only readings).text)
-    → RunsInput report ends s s2 k k2 d d (Err stop)
-stopped_unasked report ends s s2 k k2 d stop text takes cause adds front = record {
+    → ((input : List ℕ) (sectors : List (List ℕ)) (read_only : Bool) (readings : List Bool) → s.left ≡ Some input → IsPrefixOf text (text_of traces (report input sectors read_only readings)))
+    → RunsInput report traces ends s s2 k k2 d d (Err stop)
+stopped_unasked report traces ends s s2 k k2 d stop text takes cause adds front = record {
   takes = takes;
   cause = cause;
   disk = same_none d;
@@ -76,18 +77,18 @@ stopped_unasked report ends s s2 k k2 d stop text takes cause adds front = recor
 }
 
 -- it stopped before it wrote anything
-pub stopped_early : (report : Reporting) (ends : List ℕ → ℕ) (s s2 : SourceView) (k : SinkView) (d : DiskView) (stop : Stop)
-    → TakesAtMost (LONGEST_SCRIPT + 1) s.left s2.left → RunCause (Err stop) s s2 k k → RunsInput report ends s s2 k k d d (Err stop)
-stopped_early report ends s s2 k d stop takes cause =
-    stopped_unasked report ends s s2 k k d stop [] takes cause (adds_none k.written) (λ input sectors read_only readings is. prefix_none _)
+pub stopped_early : {S : Type 0} (report : Reporting S) (traces : Bool) (ends : List ℕ → ℕ) (s s2 : SourceView) (k : SinkView) (d : DiskView) (stop : Stop)
+    → TakesAtMost (LONGEST_SCRIPT + 1) s.left s2.left → RunCause (Err stop) s s2 k k → RunsInput report traces ends s s2 k k d d (Err stop)
+stopped_early report traces ends s s2 k d stop takes cause =
+    stopped_unasked report traces ends s s2 k k d stop [] takes cause (adds_none k.written) (λ input sectors read_only readings is. prefix_none _)
 
 -- a run ended without the end parts: with another status than 0, and its report was written
-pub ended_unasked : (report : Reporting) (ends : List ℕ → ℕ) (s s2 : SourceView) (k k2 : SinkView) (d : DiskView) (status : ℕ) (text : List ℕ)
+pub ended_unasked : {S : Type 0} (report : Reporting S) (traces : Bool) (ends : List ℕ → ℕ) (s s2 : SourceView) (k k2 : SinkView) (d : DiskView) (status : ℕ) (text : List ℕ)
     → (status ≡ 0 → ⊥) → TakesAtMost (LONGEST_SCRIPT + 1) s.left s2.left → RunCause (Ok status) s s2 k k2 → Adds k.written k2.written text
     → ((input : List ℕ) → s.left ≡ Some input → status ≡ ends input)
-    → ((input : List ℕ) (sectors : List (List ℕ)) (read_only : Bool) (readings : List Bool) → s.left ≡ Some input → text ≡ (report input sectors read_only readings).text)
-    → RunsInput report ends s s2 k k2 d d (Ok status)
-ended_unasked report ends s s2 k k2 d status text other takes cause adds ended whole = record {
+    → ((input : List ℕ) (sectors : List (List ℕ)) (read_only : Bool) (readings : List Bool) → s.left ≡ Some input → text ≡ text_of traces (report input sectors read_only readings))
+    → RunsInput report traces ends s s2 k k2 d d (Ok status)
+ended_unasked report traces ends s s2 k k2 d status text other takes cause adds ended whole = record {
   takes = takes;
   cause = cause;
   disk = same_none d;
@@ -103,7 +104,7 @@ ended_unasked report ends s s2 k k2 d status text other takes cause adds ended w
 }
 
 -- a run went on to the end of its input, and wrote its report up to a last text, which hangs on the disk
-pub record ToEnd (report : Reporting) (ends : List ℕ → ℕ) (s s2 : SourceView) (k k2 : SinkView) (last : List (List ℕ) → List Bool → List ℕ) : Type 0 where
+pub record ToEnd {S : Type 0} (report : Reporting S) (traces : Bool) (ends : List ℕ → ℕ) (s s2 : SourceView) (k k2 : SinkView) (last : List (List ℕ) → List Bool → List ℕ) : Type 0 where
   pub takes : TakesAtMost (LONGEST_SCRIPT + 1) s.left s2.left
   pub calm : s2.faults ≡ s.faults
   pub still : k2.faults ≡ k.faults
@@ -112,12 +113,12 @@ pub record ToEnd (report : Reporting) (ends : List ℕ → ℕ) (s s2 : SourceVi
   pub ended : (input : List ℕ) → s.left ≡ Some input → ends input ≡ 0
   pub reads : (input : List ℕ) → s.left ≡ Some input → s2.left ≡ Some []
   pub whole : (input : List ℕ) (sectors : List (List ℕ)) (read_only : Bool) (readings : List Bool) → s.left ≡ Some input
-      → text ++ last sectors readings ≡ (report input sectors read_only readings).text
+      → text ++ last sectors readings ≡ text_of traces (report input sectors read_only readings)
 
 -- then the last text was sent
-pub ended_whole : (report : Reporting) (ends : List ℕ → ℕ) (s s2 : SourceView) (k k1 k2 : SinkView) (d d2 : DiskView) (last : List (List ℕ) → List Bool → List ℕ)
-    → ToEnd report ends s s2 k k1 last → SendsDisk last d.count d d2 k1 k2 (Ok tt) → RunsInput report ends s s2 k k2 d d2 (Ok 0)
-ended_whole report ends s s2 k k1 k2 d d2 last h sent = record {
+pub ended_whole : {S : Type 0} (report : Reporting S) (traces : Bool) (ends : List ℕ → ℕ) (s s2 : SourceView) (k k1 k2 : SinkView) (d d2 : DiskView) (last : List (List ℕ) → List Bool → List ℕ)
+    → ToEnd report traces ends s s2 k k1 last → SendsDisk last d.count d d2 k1 k2 (Ok tt) → RunsInput report traces ends s s2 k k2 d d2 (Ok 0)
+ended_whole report traces ends s s2 k k1 k2 d d2 last h sent = record {
   takes = h.takes;
   cause = (inl refl, h.calm, sent.cause ∙ h.still);
   disk = sent.disk;
@@ -134,9 +135,9 @@ ended_whole report ends s s2 k k1 k2 d d2 last h sent = record {
 }
 
 -- or a part of it
-pub stopped_in_end : (report : Reporting) (ends : List ℕ → ℕ) (s s2 : SourceView) (k k1 k2 : SinkView) (d d2 : DiskView) (last : List (List ℕ) → List Bool → List ℕ) (stop : Stop)
-    → ToEnd report ends s s2 k k1 last → SendsDisk last d.count d d2 k1 k2 (Err stop) → RunsInput report ends s s2 k k2 d d2 (Err stop)
-stopped_in_end report ends s s2 k k1 k2 d d2 last stop h sent = record {
+pub stopped_in_end : {S : Type 0} (report : Reporting S) (traces : Bool) (ends : List ℕ → ℕ) (s s2 : SourceView) (k k1 k2 : SinkView) (d d2 : DiskView) (last : List (List ℕ) → List Bool → List ℕ) (stop : Stop)
+    → ToEnd report traces ends s s2 k k1 last → SendsDisk last d.count d d2 k1 k2 (Err stop) → RunsInput report traces ends s s2 k k2 d d2 (Err stop)
+stopped_in_end report traces ends s s2 k k1 k2 d d2 last stop h sent = record {
   takes = h.takes;
   cause = send_cause s s2 k k2 stop h.calm (cause_then {X = Unit {0}} (Err stop) k k1 k2 h.still sent.cause);
   disk = sent.disk;

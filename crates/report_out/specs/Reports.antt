@@ -1,4 +1,4 @@
-use Rattle.std.specs.Prelude.{◌≡◌, ℕ, ◌⊎◌, List}
+use Rattle.std.specs.Prelude.{◌≡◌, ℕ, ◌⊎◌, List, Bool}
 use Rattle.vt_outside.specs.Faults.{Rose}
 use Rattle.vt_outside.specs.Source.{SourceView}
 use Rattle.vt_outside.specs.Sink.{SinkView, Adds}
@@ -7,7 +7,7 @@ use Rattle.report_out.specs.DiskCalls.{SameDisk}
 use Rattle.report_out.specs.Answers.{Stopped, Reporting, AnswersInput}
 
 -- a call that reports on an input: from the source, the sink and the disk as they were and as they are then, to the status
-pub record ReportsOn (report : Reporting) (ends : List ℕ → ℕ) (s s2 : SourceView) (k k2 : SinkView) (d d2 : DiskView) (status : ℕ) : Type 0 where
+pub record ReportsOn {S : Type 0} (report : Reporting S) (traces : Bool) (ends : List ℕ → ℕ) (s s2 : SourceView) (k k2 : SinkView) (d d2 : DiskView) (status : ℕ) : Type 0 where
   -- the bytes that were written
   pub text : List ℕ
   pub written : Adds k.written k2.written text
@@ -20,4 +20,4 @@ pub record ReportsOn (report : Reporting) (ends : List ℕ → ℕ) (s s2 : Sour
   -- and 5 where the sink failed
   pub sink_failed : status ≡ 5 → Rose k.faults k2.faults
   pub sink_stops : (k2.faults ≡ k.faults) ⊎ (status ≡ 5)
-  pub answers : AnswersInput report ends s s2 k k2 d d2 status text
+  pub answers : AnswersInput report traces ends s s2 k k2 d d2 status text

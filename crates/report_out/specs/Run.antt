@@ -7,6 +7,7 @@ use Rattle.vt_outside.specs.Source.{SourceView}
 use Rattle.report_out.specs.Answers.{Reporting, TakesAtMost}
 use Rattle.report_out.specs.DiskCalls.{SameDisk, AddsOutcomes, AreOutcomes, AreCallsOf}
 use Rattle.report_out.specs.Output.{AllOrPart}
+use Rattle.report_out.specs.Report.{text_of}
 use Rattle.report_out.specs.Status.{run_status}
 use Rattle.report_out.specs.declared.stop.Stop.{Stop}
 use Rattle.report_out.specs.declared.stop.Stop.TheVariants.{Read, Write, Memory}
@@ -25,7 +26,7 @@ EndsAs (Err stop) end = Unit {0}
 
 -- an input was run from a source to a sink, beside a disk: `ReportsOn` as the code has it, with the stop in place of its
 -- status
-pub record RunsInput (report : Reporting) (ends : List ℕ → ℕ) (s s2 : SourceView) (k k2 : SinkView) (d d2 : DiskView) (result : Result ℕ Stop) : Type 0 where
+pub record RunsInput {S : Type 0} (report : Reporting S) (traces : Bool) (ends : List ℕ → ℕ) (s s2 : SourceView) (k k2 : SinkView) (d d2 : DiskView) (result : Result ℕ Stop) : Type 0 where
   pub takes : TakesAtMost (LONGEST_SCRIPT + 1) s.left s2.left
   pub cause : RunCause result s s2 k k2
   pub disk : SameDisk d d2
@@ -37,6 +38,6 @@ pub record RunsInput (report : Reporting) (ends : List ℕ → ℕ) (s s2 : Sour
   pub answers : (input : List ℕ) → s.left ≡ Some input → EndsAs result (ends input)
   pub reads : (input : List ℕ) → s.left ≡ Some input → IfOk result (λ status. status ≡ 0 → s2.left ≡ Some [])
   pub stops : (input : List ℕ) (sectors : List (List ℕ)) (read_only : Bool) (readings : List Bool) → s.left ≡ Some input → (ends input ≡ 0 → ⊥)
-      → AllOrPart result text (report input sectors read_only readings).text
+      → AllOrPart result text (text_of traces (report input sectors read_only readings))
   pub reports : (input : List ℕ) (image : List (List ℕ)) (readings : List Bool) → s.left ≡ Some input → d.image ≡ Some image → AreOutcomes d d2 readings
-      → AllOrPart result text (report input image d.read_only readings).text
+      → AllOrPart result text (text_of traces (report input image d.read_only readings))

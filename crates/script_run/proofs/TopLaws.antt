@@ -6,7 +6,7 @@ use Rattle.vt_outside.specs.Sink.{SinkView}
 use Rattle.vt_outside.specs.Source.{SourceView}
 use Rattle.report_out.specs.Answers.{AnswersInput, Stopped}
 use Rattle.report_out.specs.Reports.{ReportsOn}
-use Rattle.script_run.specs.Command.{Watches, command_of, ending, reporting}
+use Rattle.script_run.specs.Command.{Watches, command_of, ending, reporting, traces_of}
 use Rattle.script_run.specs.Headline.{Headline}
 use Rattle.script_run.specs.declared.command.Command.{Command}
 
@@ -26,12 +26,12 @@ known status (inr (inr e)) = inr (inr (inr e))
 
 -- a command reported on its input
 pub headline_of_command : (words : List (List ℕ)) (c : Command) (s s2 : SourceView) (k k2 : SinkView) (d d2 : DiskView) (w w2 : Option (List ℕ)) (status : ℕ)
-    → command_of words ≡ Some c → ReportsOn (reporting c) (ending c) s s2 k k2 d d2 status → Watches (Some c) s w w2 status
+    → command_of words ≡ Some c → ReportsOn (reporting c) (traces_of c) (ending c) s s2 k k2 d d2 status → Watches (Some c) s k k2 w w2 status
     → Headline words s s2 k k2 d d2 w w2 status
 headline_of_command words c s s2 k k2 d d2 w w2 status is r watched = record {
   text = r.text;
   written = r.written;
-  watch = subst (λ (x : Option Command). Watches x s w w2 status) (sym is) watched;
+  watch = subst (λ (x : Option Command). Watches x s k k2 w w2 status) (sym is) watched;
   disk = r.disk;
   known = known status r.known;
   source_failed = r.source_failed;
@@ -39,6 +39,6 @@ headline_of_command words c s s2 k k2 d d2 w w2 status is r watched = record {
   sink_failed = r.sink_failed;
   sink_stops = r.sink_stops;
   only_usage = λ e. absurd (not_2 status r.known e);
-  runs = λ other names. subst (λ (x : Command). AnswersInput (reporting x) (ending x) s s2 k k2 d d2 status r.text) (same_Some c other (sym is ∙ names)) r.answers;
+  runs = λ other names. subst (λ (x : Command). AnswersInput (reporting x) (traces_of x) (ending x) s s2 k k2 d d2 status r.text) (same_Some c other (sym is ∙ names)) r.answers;
   refuses = λ no_command. cc;
 }

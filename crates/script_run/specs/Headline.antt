@@ -5,7 +5,7 @@ use Rattle.vt_outside.specs.Sink.{SinkView, Adds}
 use Rattle.vt_outside.specs.Disk.{DiskView}
 use Rattle.report_out.specs.Answers.{AnswersInput, Stopped, Written}
 use Rattle.report_out.specs.DiskCalls.{SameDisk}
-use Rattle.script_run.specs.Command.{Watches, command_of, ending, reporting}
+use Rattle.script_run.specs.Command.{Watches, command_of, ending, reporting, traces_of}
 use Rattle.script_run.specs.Usage.{usage}
 use Rattle.script_run.specs.declared.command.Command.{Command}
 
@@ -22,8 +22,8 @@ pub record Headline (words : List (List ℕ)) (s s2 : SourceView) (k k2 : SinkVi
   -- the bytes that were written
   pub text : List ℕ
   pub written : Adds k.written k2.written text
-  -- what the watch was shown, with and without the word `trace`
-  pub watch : Watches (command_of words) s w w2 status
+  -- what the watch was shown, with and without the word `trace`: no line was written before its trace was shown whole
+  pub watch : Watches (command_of words) s k k2 w w2 status
   -- the disk that comes back has the image, the size and the read-only flag of the one that went in
   pub disk : SameDisk d d2
   pub known : Stopped status ⊎ ((status ≡ 0) ⊎ ((status ≡ 2) ⊎ ((status ≡ 3) ⊎ (status ≡ 7))))
@@ -36,5 +36,5 @@ pub record Headline (words : List (List ℕ)) (s s2 : SourceView) (k k2 : SinkVi
   -- 2 only where the words are not in the grammar
   pub only_usage : status ≡ 2 → command_of words ≡ None
   -- the bus headline: where the words are a command, what is written is what it reports on the input
-  pub runs : (c : Command) → command_of words ≡ Some c → AnswersInput (reporting c) (ending c) s s2 k k2 d d2 status text
+  pub runs : (c : Command) → command_of words ≡ Some c → AnswersInput (reporting c) (traces_of c) (ending c) s s2 k k2 d d2 status text
   pub refuses : command_of words ≡ None → ShowsUsage s s2 d d2 status text

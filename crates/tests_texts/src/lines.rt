@@ -18,12 +18,13 @@ impl LineRunner for Echo {
     ghost use Rattle.std.specs.Prelude.{◌==◌, ◌++◌, [], length, Some, None, if◌then◌else◌};
     ghost use Rattle.vt_outside.specs.Memory.{disk_view};
     ghost use Rattle.report_out.specs.EndText.{end_text};
+    ghost use Rattle.report_out.specs.Report.{Asked};
 
     type Disk = MemDisk;
 
     ghost State = { Unit };
 
-    ghost script = { record { start = λ sectors read_only. tt; line = λ line. if length line == 1 then Some (λ k state. record { trace = line; text = line ++ line; state = tt }) else None; last = λ state sectors outcomes. end_text [] [] sectors outcomes } };
+    ghost script = { record { start = λ sectors read_only. tt; line = λ line. if length line == 1 then Some (λ k state. record { told = record { kind = Asked; trace = line; text = line ++ line; accesses = None }; state = tt }) else None; last = λ state sectors outcomes. end_text [] [] sectors outcomes } };
 
     ghost represents = { λ echo state. Unit };
 

@@ -1,4 +1,4 @@
-use Rattle.line_runner.proofs.EndLaws.{reports_fault, reports_part, reports_stop, reports_whole, shows_part, shows_whole}
+use Rattle.line_runner.proofs.EndLaws.{reports_fault, reports_part, reports_stop, reports_whole, shows_part, shows_whole, shows_ended}
 use Rattle.line_runner.proofs.runner.Runner.run.Goals as goal
 
 pub returns-in-Ok-clause-reports : goal.returns-in-Ok-clause-reports
@@ -25,5 +25,15 @@ returns-clause-reports g c =
     (rw (c.into_disk-disk.ensures, c.run_to_disk-ran.ensures.disk, c.in-Err-send_disk.is) at c.send_disk.ensures.sends)
     )
 
+pub returns-in-Ok-clause-shows : goal.returns-in-Ok-clause-shows
+returns-in-Ok-clause-shows g c = shows_ended _ _ _ _ _ _ _ _ _ _ c.in-Ok.ensures.runs
+
+pub returns-in-Ok-send_disk-clause-shows : goal.returns-in-Ok-send_disk-clause-shows
+returns-in-Ok-send_disk-clause-shows g c =
+    shows_whole _ _ _ _ _ _ _ _ _ _ _ _ _ (rw (c.in-Ok-eq0.is, rw c.in-Ok-eq0.is at c.in-Ok-eq0.field-0-test) at c.run_to_disk-ran.ensures.runs)
+    c.send_disk.ensures.sends.adds
+
 pub returns-clause-shows : goal.returns-clause-shows
-returns-clause-shows g c = shows_whole _ _ _ _ _ _ _ _ _ _ _ (rw (c.in-Ok-eq0.is, rw c.in-Ok-eq0.is at c.in-Ok-eq0.field-0-test) at c.run_to_disk-ran.ensures.runs)
+returns-clause-shows g c =
+    shows_whole _ _ _ _ _ _ _ _ _ _ _ _ _ (rw (c.in-Ok-eq0.is, rw c.in-Ok-eq0.is at c.in-Ok-eq0.field-0-test) at c.run_to_disk-ran.ensures.runs)
+    c.send_disk.ensures.sends.adds
