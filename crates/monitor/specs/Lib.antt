@@ -1,0 +1,3 @@
+pub mod BringUp
+pub mod Exit
+pub mod Machine
