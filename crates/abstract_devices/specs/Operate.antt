@@ -2,6 +2,7 @@ use Rattle.std.specs.Prelude.{ℕ, ◌||◌, List, [], ◌∷◌, ◌++◌, take
 use Rattle.byteorder.specs.Endian.{little_bytes}
 use Rattle.vt_types.specs.Device.{CONSOLE_PORTS, device_id, queue_count}
 use Rattle.vt_types.specs.declared.device.Dev.{Dev}
+use Rattle.vt_types.specs.declared.device.Dev.TheVariants.{Con}
 use Rattle.vt_types.specs.declared.device.BusKind.{BusKind}
 use Rattle.vt_types.specs.declared.device.BusKind.TheVariants.{Mmio, PciIntx, PciMsix, CcwClassic, CcwAdapter}
 use Rattle.vt_types.specs.declared.operation.Event.{Event}
@@ -17,7 +18,7 @@ use Rattle.vt_types.specs.Status.{DRIVER_OK, status_of_step}
 use Rattle.vq_common.specs.Queue.{slots_of}
 use Rattle.dev_status.specs.Status.{StatusState, write_of, has_bits}
 use Rattle.vt_types.specs.Features.{EVENT_IDX}
-use Rattle.dev_console.specs.Console.{with_input}
+use Rattle.device_contents.specs.Contents.{content_after, with_console, with_emergency}
 use Rattle.abstract_devices.specs.World.{World, AbstractDevice, AbstractQueue, Buffer, UsedBuffer, Always, Never, First, device, with_device, known_of, queue, with_queue, offered, status_state}
 use Rattle.abstract_devices.specs.Serve.{serve}
 use Rattle.state_table.specs.Refusal.{refusal_of}
@@ -89,8 +90,8 @@ step_outcome w dev d = record { world = with_device w dev d; reply = reply.Statu
 
 -- the bytes of a field of the configuration; those of a device that is not there are none
 abbrev pub field_bytes : World → Field → List ℕ
-field_bytes w Cols = little_bytes 2 w.cols
-field_bytes w Rows = little_bytes 2 w.rows
+field_bytes w Cols = little_bytes 2 w.contents.console.cols
+field_bytes w Rows = little_bytes 2 w.contents.console.rows
 field_bytes w Ports = little_bytes 4 CONSOLE_PORTS
 field_bytes w Emerg = little_bytes 4 0
 field_bytes w Capacity = []
@@ -102,7 +103,7 @@ field_bytes w NetStatus = []
 
 -- a field is written: emerg_wr adds a byte to the console's (VIRTIO 1.2, 5.3.4)
 abbrev pub write_field : World → Field → ℕ → World
-write_field w Emerg value = record w { console = w.console ++ value ∷ [] }
+write_field w Emerg value = record w { contents = with_console (with_emergency value) w.contents }
 write_field w Cols value = w
 write_field w Rows value = w
 write_field w Ports value = w
@@ -148,13 +149,16 @@ operate bus w op = unless_refused (refusal_of (known_of (device w (device_of op)
 -- the console has another size: a changed configuration is signalled where DRIVER_OK stands (VIRTIO 1.2, 2.3)
 abbrev pub resize_console : World → ℕ → ℕ → World
 resize_console w cols rows =
-    record w { con = record w.con { config_changed = w.con.config_changed || has_bits w.con.status DRIVER_OK }; cols = cols; rows = rows }
+    record w {
+      devices = record w.devices { con = record w.devices.con { config_changed = w.devices.con.config_changed || has_bits w.devices.con.status DRIVER_OK } };
+      contents = content_after (event.Consize cols rows) (status_state w Con) w.contents;
+    }
 
 -- an event; those of a device that is not there change nothing
 abbrev pub happen : World → Event → World
 happen w (event.Serve dev n) = serve w dev n
 happen w (event.Frame bytes) = w
-happen w (event.Key bytes) = record w { waiting = with_input w.waiting bytes }
+happen w (event.Key bytes) = record w { contents = content_after (event.Key bytes) (status_state w Con) w.contents }
 happen w (event.Resize sectors) = w
 happen w (event.Link up) = w
 happen w (event.Consize cols rows) = resize_console w cols rows

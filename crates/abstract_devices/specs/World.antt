@@ -1,8 +1,9 @@
 use Rattle.std.specs.Prelude.{ℕ, ◌+◌, List, [], ◌++◌, map, sum, Bool, false, Option, Some, None, replicate, slice_get, slice_set}
 use Rattle.std.specs.Option.{option_flatten, option_map}
 use Rattle.vt_types.specs.declared.device.Dev.{Dev}
-use Rattle.vt_types.specs.declared.device.Dev.TheVariants.{Blk, Net, Con}
-use Rattle.vt_types.specs.Device.{queue_count, START_COLS, START_ROWS}
+use Rattle.vt_types.specs.Device.{queue_count}
+use Rattle.by_device.specs.ByDevice.{ByDevice, all_of, of, with}
+use Rattle.device_contents.specs.Contents.{Contents, new_contents}
 use Rattle.dev_status.specs.Features.{features_of}
 use Rattle.dev_status.specs.Status.{StatusState}
 use Rattle.state_table.specs.Known.{Known, KnownQueue}
@@ -51,18 +52,11 @@ pub record AbstractDisk : Type 0 where
   pub sectors : List (List ℕ)
   pub read_only : Bool
 
--- everything: the three devices, the disk, the frames that were sent, the console's size in characters, its waiting input and
--- its bytes
+-- everything: the three devices, what they hold, and the disk
 pub record World : Type 0 where
-  pub blk : AbstractDevice
-  pub net : AbstractDevice
-  pub con : AbstractDevice
+  pub devices : ByDevice AbstractDevice
+  pub contents : Contents
   pub disk : AbstractDisk
-  pub sent : List (List ℕ)
-  pub cols : ℕ
-  pub rows : ℕ
-  pub waiting : List ℕ
-  pub console : List ℕ
 
 -- the features that a device offers
 abbrev pub offered : World → Dev → ℕ
@@ -70,14 +64,10 @@ offered w dev = features_of dev w.disk.read_only
 
 -- one of the three devices, and the world with another in its place
 abbrev pub device : World → Dev → AbstractDevice
-device w Blk = w.blk
-device w Net = w.net
-device w Con = w.con
+device w dev = of w.devices dev
 
 abbrev pub with_device : World → Dev → AbstractDevice → World
-with_device w Blk d = record w { blk = d }
-with_device w Net d = record w { net = d }
-with_device w Con d = record w { con = d }
+with_device w dev d = record w { devices = with w.devices dev d }
 
 -- the status machine of a device
 abbrev pub status_state : World → Dev → StatusState
@@ -128,4 +118,4 @@ new_device dev =
 -- the starting world, with this disk
 abbrev pub new_world : AbstractDisk → World
 new_world disk =
-    record { blk = new_device Blk; net = new_device Net; con = new_device Con; disk = disk; sent = []; cols = START_COLS; rows = START_ROWS; waiting = []; console = [] }
+    record { devices = all_of new_device; contents = new_contents; disk = disk }

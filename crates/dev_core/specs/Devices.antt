@@ -1,22 +1,19 @@
-use Rattle.std.specs.Prelude.{ℕ, List, [], false, Option, Some, None}
+use Rattle.std.specs.Prelude.{ℕ, false, Option, Some, None}
 use Rattle.vt_types.specs.declared.device.Dev.{Dev}
 use Rattle.vt_types.specs.declared.device.Dev.TheVariants.{Blk, Net, Con}
 use Rattle.vt_types.specs.declared.operation.Event.{Event}
 use Rattle.vt_types.specs.declared.operation.Event.TheVariants as event
-use Rattle.vt_types.specs.Device.{START_COLS, START_ROWS, queue_count}
+use Rattle.vt_types.specs.Device.{queue_count}
 use Rattle.vt_outside.specs.Tripped.{TrippedView}
 use Rattle.dev_status.specs.Features.{features_of}
-use Rattle.dev_console.specs.Console.{with_input}
+use Rattle.device_contents.specs.Contents.{Contents, content_after, new_contents}
 use Rattle.dev_core.specs.Device.{DeviceState, new_device, next_generation}
 
--- the devices as one set, apart from any bus: the console, its size in characters, the input that waits and the bytes that
--- it was given. The block and the network device are not there yet
+-- the devices as one set, apart from any bus: the console, and what the devices hold. The block and the network device are not
+-- there yet
 pub record Devices : Type 0 where
   pub con : DeviceState
-  pub cols : ℕ
-  pub rows : ℕ
-  pub waiting : List ℕ
-  pub console : List ℕ
+  pub contents : Contents
 
 -- the set as its calls see it: beside the devices, how many spare bytes the console has, and the disk behind the block
 -- device, which no device asks yet
@@ -27,7 +24,7 @@ pub record SetView : Type 0 where
 
 -- the devices at the start: a console of its starting size
 abbrev pub new_devices : Devices
-new_devices = record { con = new_device (features_of Con false) (queue_count Con); cols = START_COLS; rows = START_ROWS; waiting = []; console = [] }
+new_devices = record { con = new_device (features_of Con false) (queue_count Con); contents = new_contents }
 
 -- a device, where it is there
 abbrev pub device : Devices → Dev → Option DeviceState
@@ -50,8 +47,8 @@ pub record Changed : Type 0 where
 abbrev pub backend : Devices → Event → Changed
 backend s (event.Serve dev queue) = record { configuration = None; devices = s }
 backend s (event.Frame bytes) = record { configuration = None; devices = s }
-backend s (event.Key bytes) = record { configuration = None; devices = record s { waiting = with_input s.waiting bytes } }
+backend s (event.Key bytes) = record { configuration = None; devices = record s { contents = content_after (event.Key bytes) s.con.status s.contents } }
 backend s (event.Resize sectors) = record { configuration = None; devices = s }
 backend s (event.Link up) = record { configuration = None; devices = s }
-backend s (event.Consize cols rows) = record { configuration = Some Con; devices = record s { con = next_generation s.con; cols = cols; rows = rows } }
+backend s (event.Consize cols rows) = record { configuration = Some Con; devices = record s { con = next_generation s.con; contents = content_after (event.Consize cols rows) s.con.status s.contents } }
 backend s (event.Diskfail call) = record { configuration = None; devices = s }

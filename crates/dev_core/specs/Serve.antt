@@ -7,6 +7,7 @@ use Rattle.vq_common.specs.Piece.{keeps_rules, readable, room, scatter}
 use Rattle.vq_common.specs.Queue.{Given}
 use Rattle.dev_status.specs.Status.{StatusState, has_bits, needs_reset_of}
 use Rattle.dev_console.specs.Console.{ConsoleAnswer, ConsoleState, console_answer}
+use Rattle.device_contents.specs.Contents.{Contents, new_contents, with_answer, with_console}
 use Rattle.dev_core.specs.declared.served.Served.{Served}
 use Rattle.dev_core.specs.declared.served.Served.TheVariants as served
 use Rattle.dev_core.specs.Ring.{SetRing, walk, taken, given, areas_inside}
@@ -41,14 +42,14 @@ abbrev pub gave : Devices → ℕ → QueueState → SetRing → ConsoleAnswer �
 gave s n q r a g =
     record {
       served = used g.signals;
-      devices = record s { con = with_queue s.con n (record q { ring = Some (record r { queue = g.queue }) }); waiting = a.waiting; console = a.console };
+      devices = record s { con = with_queue s.con n (record q { ring = Some (record r { queue = g.queue }) }); contents = with_console (with_answer a) s.contents };
       memory = g.memory;
     }
 
 -- a chain of the console is answered
 abbrev pub serve_chain : Devices → ℕ → QueueState → SetRing → ChainValue → List ℕ → Serving
 serve_chain s n q r c mem =
-    let a = console_answer n (readable mem c.pieces) (room c.pieces) s.waiting s.console in
+    let a = console_answer n (readable mem c.pieces) (room c.pieces) s.contents.console.waiting s.contents.console.console in
     gave s n q r a (answered r c a mem)
 
 -- what the ring shows decides: nothing ends the kick; something malformed makes the device need a reset
@@ -64,7 +65,7 @@ serve_ring s n q (Some r) mem = if q.kick then serve_shown s n q r mem (walk r.k
 
 -- the receive queue of the console is served only where input waits
 abbrev pub has_work : Devices → ℕ → Bool
-has_work s n = if n == 0 then nat_lt 0 (length s.waiting) else true
+has_work s n = if n == 0 then nat_lt 0 (length s.contents.console.waiting) else true
 
 abbrev pub serve_console : Devices → ℕ → Option QueueState → List ℕ → Serving
 serve_console s n None mem = idle s mem
@@ -78,9 +79,13 @@ serve s Con n mem = serve_console s n (slice_get s.con.queues n) mem
 
 -- the steps of serving, as the calls that serve take them
 
+-- what the devices hold, by the console's size in characters and what it keeps: the others are not there yet
+abbrev pub contents_of : ℕ → ℕ → ConsoleState → Contents
+contents_of cols rows s = record new_contents { console = record { cols = cols; rows = rows; waiting = s.waiting; console = s.console } }
+
 -- the console of a device, its size in characters, and what it keeps
 abbrev pub devices_of : DeviceState → ℕ → ℕ → ConsoleState → Devices
-devices_of d cols rows s = record { con = d; cols = cols; rows = rows; waiting = s.waiting; console = s.console }
+devices_of d cols rows s = record { con = d; contents = contents_of cols rows s }
 
 -- what came of serving a queue breaks a device or leaves it
 abbrev pub broken_by : Served → DeviceState → DeviceState

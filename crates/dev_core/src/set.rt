@@ -54,10 +54,11 @@ pub struct DeviceSet<D: Disk> {
 impl<D: Disk> Model for DeviceSet<D> {
     ghost use Rattle.std.specs.Prelude.{◌≡◌, length};
     ghost use Rattle.dev_core.specs.Devices.{SetView};
+    ghost use Rattle.dev_core.specs.Serve.{devices_of};
 
     ghost Value = { SetView };
 
-    ghost view = { λ s. record { devices = record { con = s.con; cols = s.cols; rows = s.rows; waiting = s.state.waiting; console = s.state.console }; spare = s.state.spare; disk = s.disk } };
+    ghost view = { λ s. record { devices = devices_of s.con s.cols s.rows s.state; spare = s.state.spare; disk = s.disk } };
 
     ghost invariant = { λ s. length s.con.queues ≡ 2 };
 }
@@ -239,7 +240,7 @@ impl<D: Disk> DeviceSet<D> {
     pub fn write_config(&mut self, dev: Dev, off: u32, bytes: &[u8])
         requires { 1 ≤ self.old.spare }
         ensures devices { self.new.devices ≡ write_configuration self.old.devices dev off bytes.now }
-        ensures spare { self.new.spare + length self.new.devices.console ≡ self.old.spare + length self.old.devices.console }
+        ensures spare { self.new.spare + length self.new.devices.contents.console.console ≡ self.old.spare + length self.old.devices.contents.console.console }
         ensures disk { self.new.disk ≡ self.old.disk }
     {
         match dev {
@@ -258,7 +259,7 @@ impl<D: Disk> DeviceSet<D> {
         requires console { LONGEST_BUFFER ≤ self.old.spare }
         requires pages { PAGES_OF_SERVE ≤ mem.old.spare }
         ensures serves { serve self.old.devices dev queue mem.old.bytes ≡ record { served = result; devices = self.new.devices; memory = mem.new.bytes } }
-        ensures spare { self.new.spare + length self.new.devices.console ≡ self.old.spare + length self.old.devices.console }
+        ensures spare { self.new.spare + length self.new.devices.contents.console.console ≡ self.old.spare + length self.old.devices.contents.console.console }
         ensures console { self.old.spare ≤ self.new.spare + LONGEST_BUFFER }
         ensures pages { mem.old.spare ≤ mem.new.spare + PAGES_OF_SERVE }
         ensures disk { self.new.disk ≡ self.old.disk }
@@ -296,7 +297,7 @@ impl<D: Disk> DeviceSet<D> {
 
     /// The bytes that the console was given.
     pub fn console(&self) -> &[u8]
-        ensures { result.now ≡ self.now.devices.console }
+        ensures { result.now ≡ self.now.devices.contents.console.console }
     {
         self.state.console()
     }

@@ -50,5 +50,5 @@ abbrev pub driven_script : {R : Type 0} → BusDefinition R → Script (Halves R
 driven_script bus = record {
   start = new_halves bus;
   line = λ line. option_map (line_does bus) (if_there (script_line line));
-  last = λ h sectors outcomes. end_text h.world.sent h.world.console sectors outcomes;
+  last = λ h sectors outcomes. end_text h.world.contents.network.sent h.world.contents.console.console sectors outcomes;
 }

@@ -13,7 +13,7 @@ pub record Represents {R : Type 0} (rel : Relation R) (machine : MachineView R) 
   pub raw : machine.raw ≡ h.raw
   pub known : kept ≡ h.known
   pub related : rel h.world h.raw h.known
-  pub sent : h.world.sent ≡ []
+  pub sent : h.world.contents.network.sent ≡ []
 
 -- a machine has what a line of a script may take, the accesses of its operation and the events of this one: spare bytes of
 -- lines, and of the console, and spare pages

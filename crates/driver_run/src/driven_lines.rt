@@ -127,7 +127,7 @@ impl<M: Simulation, D: Disk> LineRunner for DrivenLines<M, D> {
     }
 
     fn console(&self) -> &[u8] {
-        M::same_console();
+        M::same_contents();
         self.runner.console()
     }
 

@@ -140,7 +140,7 @@ impl<M: Simulation, D: Disk> OperationRunner<M, D> {
 
     /// The bytes that the console was given.
     pub fn console(&self) -> &[u8]
-        ensures { result.now ≡ self.now.machine.raw.devices.console }
+        ensures { result.now ≡ self.now.machine.raw.devices.contents.console.console }
     {
         self.machine.console()
     }

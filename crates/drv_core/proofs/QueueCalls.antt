@@ -15,7 +15,9 @@ use Rattle.vq_common.specs.Queue.{DriverQueue, ReapedValue, post_program}
 use Rattle.vq_split_drv.specs.Post.{split_post_accesses, split_posted}
 use Rattle.vq_split_drv.specs.Reap.{split_reap_program, split_signals_program}
 use Rattle.drv_core.specs.Calls.{GivesOnDevice, GivesOnQueue, GivesOnSet, QueueProgram, post_to, reap_from, set_signals_of, with_queue}
-use Rattle.drv_core.specs.Driver.{DeviceRecord, DriverRecord, ends, record_of, with_record, with_driver_queue}
+use Rattle.by_device.specs.ByDevice.{of, with}
+use Rattle.by_device.proofs.ByDeviceLaws.{with_same}
+use Rattle.drv_core.specs.Driver.{DeviceRecord, DriverRecord, ends, with_driver_queue}
 use Rattle.drv_core.specs.Lowering.{on_queue, post_reply, queue_program, reap_reply}
 
 -- a list with an item put where it is
@@ -23,12 +25,6 @@ set_same : {X : Type 0} (xs : List X) (n : ℕ) (x : X) → slice_get xs n ≡ S
 set_same [] n x h = refl
 set_same (y ∷ ys) zero x h = cc
 set_same (y ∷ ys) (suc n) x h = ap (λ zs. y ∷ zs) (set_same ys n x h)
-
--- the records with that of a device put where it is
-same_record : (known : DriverRecord) (dev : Dev) → with_record known dev (record_of known dev) ≡ known
-same_record known Blk = refl
-same_record known Net = refl
-same_record known Con = refl
 
 module _ {P : Type 0} (step : P → AccessValue → Answer → List ℕ → List ℕ → P → Type 0) (marking : P → P → Type 0) where
   -- a buffer is posted, or refused for want of room
@@ -77,10 +73,10 @@ module _ {P : Type 0} (step : P → AccessValue → Answer → List ℕ → List
   on_queue_unset program p =
       record {
         gives = λ known dev n at.
-            let same : with_record known dev (with_queue (record_of known dev) n None) ≡ known
-            = ap (λ (qs : List (Option DriverQueue)). with_record known dev (record (record_of known dev) { queues = qs })) (set_same (record_of known dev).queues n None at) ∙ same_record known dev
+            let same : with known dev (with_queue (of known dev) n None) ≡ known
+            = ap (λ (qs : List (Option DriverQueue)). with known dev (record (of known dev) { queues = qs })) (set_same (of known dev).queues n None at) ∙ with_same known dev
             in
-            subst (λ (o : Option (Option DriverQueue)). Gives step marking (on_queue known dev n (program known dev n) (option_flatten o)) p (record { reply = Refused why.Unset; known = with_record known dev (with_queue (record_of known dev) n None) }) p) (sym at)
+            subst (λ (o : Option (Option DriverQueue)). Gives step marking (on_queue known dev n (program known dev n) (option_flatten o)) p (record { reply = Refused why.Unset; known = with known dev (with_queue (of known dev) n None) }) p) (sym at)
             (ap (λ (known2 : DriverRecord). record { reply = Refused why.Unset; known = known2 }) same, refl);
       }
 
@@ -91,6 +87,6 @@ module _ {P : Type 0} (step : P → AccessValue → Answer → List ℕ → List
   on_device program d n old new r p p2 at h =
       record {
         gives = λ known dev is.
-            subst (λ (e : DeviceRecord). Gives step marking (queue_program known dev n (program known dev n)) p (record { reply = r; known = with_record known dev (with_queue e n new) }) p2) is
+            subst (λ (e : DeviceRecord). Gives step marking (queue_program known dev n (program known dev n)) p (record { reply = r; known = with known dev (with_queue e n new) }) p2) is
             (h.gives known dev n (ap (λ (e : DeviceRecord). slice_get e.queues n) is ∙ at));
       }

@@ -12,7 +12,8 @@ use Rattle.vq_split_drv.specs.Post.{split_post_accesses, split_posted}
 use Rattle.vq_split_drv.specs.Reap.{split_reap_program, split_signals_program}
 use Rattle.state_table.specs.Known.{known_queue}
 use Rattle.state_table.specs.Refusal.{first_of, is_agreed, queue_tests, buffer_tests, mode_tests}
-use Rattle.drv_core.specs.Driver.{DeviceRecord, DriverRecord, Ended, ends, known_of, record_of, with_record, with_driver_queue}
+use Rattle.by_device.specs.ByDevice.{of, with}
+use Rattle.drv_core.specs.Driver.{DeviceRecord, DriverRecord, Ended, ends, known_of, with_driver_queue}
 use Rattle.drv_core.specs.Lowering.{post_reply, queue_program, reap_reply}
 
 -- what a call of a part of the driver claims: of its queue, and then of its device
@@ -68,9 +69,9 @@ pub record GivesOnSet {P : Type 0} (step : P → AccessValue → Answer → List
 
 -- the same of a queue that may not be set
 pub record GivesOnQueue {P : Type 0} (step : P → AccessValue → Answer → List ℕ → List ℕ → P → Type 0) (marking : P → P → Type 0) (program : QueueProgram) (old : Option DriverQueue) (p : P) (r : ReplyValue) (new : Option DriverQueue) (p2 : P) : Type 0 where
-  pub gives : (known : DriverRecord) (dev : Dev) (n : ℕ) → slice_get (record_of known dev).queues n ≡ Some old
-      → Gives step marking (queue_program known dev n (program known dev n)) p (record { reply = r; known = with_record known dev (with_queue (record_of known dev) n new) }) p2
+  pub gives : (known : DriverRecord) (dev : Dev) (n : ℕ) → slice_get (of known dev).queues n ≡ Some old
+      → Gives step marking (queue_program known dev n (program known dev n)) p (record { reply = r; known = with known dev (with_queue (of known dev) n new) }) p2
 
 -- a program on a device gives this reply and leaves this record of the device, whatever else is known
 pub record GivesOnDevice {P : Type 0} (step : P → AccessValue → Answer → List ℕ → List ℕ → P → Type 0) (marking : P → P → Type 0) (program : DriverRecord → Dev → Program Ended) (old : DeviceRecord) (p : P) (r : ReplyValue) (new : DeviceRecord) (p2 : P) : Type 0 where
-  pub gives : (known : DriverRecord) (dev : Dev) → record_of known dev ≡ old → Gives step marking (program known dev) p (record { reply = r; known = with_record known dev new }) p2
+  pub gives : (known : DriverRecord) (dev : Dev) → of known dev ≡ old → Gives step marking (program known dev) p (record { reply = r; known = with known dev new }) p2

@@ -1,12 +1,12 @@
 use Rattle.std.specs.Prelude.{ℕ, List, map, Bool, false, Option, Some, None, replicate, slice_get, slice_set}
 use Rattle.std.specs.Option.{option_flatten, option_map}
 use Rattle.vt_types.specs.declared.device.Dev.{Dev}
-use Rattle.vt_types.specs.declared.device.Dev.TheVariants.{Blk, Net, Con}
 use Rattle.vt_types.specs.Device.{queue_count}
 use Rattle.vt_types.specs.Program.{Program, End}
 use Rattle.vt_types.specs.Reply.{ReplyValue}
 use Rattle.vq_common.specs.Queue.{DriverQueue, Unreaped, slots_of_all}
 use Rattle.state_table.specs.Known.{Known, KnownQueue}
+use Rattle.by_device.specs.ByDevice.{ByDevice, all_of, of, with}
 
 -- what a driver keeps of a device: whether it was probed, and reset since; the status that it read last; the features that it
 -- accepted; and its queues that are set
@@ -18,10 +18,8 @@ pub record DeviceRecord : Type 0 where
   pub queues : List (Option DriverQueue)
 
 -- what it keeps of all three
-pub record DriverRecord : Type 0 where
-  pub blk : DeviceRecord
-  pub net : DeviceRecord
-  pub con : DeviceRecord
+abbrev pub DriverRecord : Type 0
+DriverRecord = ByDevice DeviceRecord
 
 -- no queue of a device is set
 abbrev pub no_queues : Dev → List (Option DriverQueue)
@@ -32,25 +30,14 @@ abbrev pub new_device_record : Dev → DeviceRecord
 new_device_record dev = record { probed = false; reset_since = false; status = 0; accepted = 0; queues = no_queues dev }
 
 abbrev pub new_record : DriverRecord
-new_record = record { blk = new_device_record Blk; net = new_device_record Net; con = new_device_record Con }
-
--- the record of one device, and the records with another in its place
-abbrev pub record_of : DriverRecord → Dev → DeviceRecord
-record_of known Blk = known.blk
-record_of known Net = known.net
-record_of known Con = known.con
-
-abbrev pub with_record : DriverRecord → Dev → DeviceRecord → DriverRecord
-with_record known Blk d = record known { blk = d }
-with_record known Net d = record known { net = d }
-with_record known Con d = record known { con = d }
+new_record = all_of new_device_record
 
 -- a queue, where the device has it and it is set; and the record with a queue that is set
 abbrev pub driver_queue : DeviceRecord → ℕ → Option DriverQueue
 driver_queue d n = option_flatten (slice_get d.queues n)
 
 abbrev pub with_driver_queue : DriverRecord → Dev → ℕ → DriverQueue → DriverRecord
-with_driver_queue known dev n q = with_record known dev (record (record_of known dev) { queues = slice_set (record_of known dev).queues n (Some q) })
+with_driver_queue known dev n q = with known dev (record (of known dev) { queues = slice_set (of known dev).queues n (Some q) })
 
 -- what the state table reads of a queue, and of a device
 abbrev pub queue_known : DriverQueue → KnownQueue

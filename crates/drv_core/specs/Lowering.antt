@@ -10,7 +10,8 @@ use Rattle.vq_common.specs.Queue.{DriverQueue, ReapedValue, post_program}
 use Rattle.vq_split_drv.specs.Post.{split_post_accesses, split_posted}
 use Rattle.vq_split_drv.specs.Reap.{split_reap_program, split_signals_program}
 use Rattle.state_table.specs.Refusal.{refusal_of}
-use Rattle.drv_core.specs.Driver.{DriverRecord, Ended, ends, record_of, driver_queue, with_driver_queue, known_of}
+use Rattle.by_device.specs.ByDevice.{of}
+use Rattle.drv_core.specs.Driver.{DriverRecord, Ended, ends, driver_queue, with_driver_queue, known_of}
 
 -- from what a driver keeps, an operation and a number of repeats to the accesses, on a bus
 abbrev pub Lowering : Type 0
@@ -23,7 +24,7 @@ unless_refused known (Some reason) program = ends (reply.Refused reason) known
 
 -- the lowering of every operation, from that of those that are not refused
 abbrev pub lowered : Lowering → Lowering
-lowered allowed known op repeats = unless_refused known (refusal_of (known_of (record_of known (device_of op))) op) (allowed known op repeats)
+lowered allowed known op repeats = unless_refused known (refusal_of (known_of (of known (device_of op))) op) (allowed known op repeats)
 
 -- what is done with the ring of a queue is the same on every bus; one that isn't set was refused before
 abbrev pub on_queue : DriverRecord → Dev → ℕ → (DriverQueue → Program Ended) → Option DriverQueue → Program Ended
@@ -31,7 +32,7 @@ on_queue known dev n program None = ends (reply.Refused why.Unset) known
 on_queue known dev n program (Some q) = program q
 
 abbrev pub queue_program : DriverRecord → Dev → ℕ → (DriverQueue → Program Ended) → Program Ended
-queue_program known dev n program = on_queue known dev n program (driver_queue (record_of known dev) n)
+queue_program known dev n program = on_queue known dev n program (driver_queue (of known dev) n)
 
 -- posting a buffer (VIRTIO 1.2, 2.7.13); whether it fits was tested before
 abbrev pub post_reply : Bool → ReplyValue

@@ -9,7 +9,8 @@ ghost use Rattle.vt_types.specs.Reply.{reply_value};
 ghost use Rattle.vt_types.specs.Within.{IsBufferWithin};
 ghost use Rattle.vq_common.specs.Queue.{IsInBlock, is_queue_size, new_driver_queue};
 ghost use Rattle.state_table.specs.Refusal.{refusal_of};
-ghost use Rattle.drv_core.specs.Driver.{known_of, new_record, no_queues, record_of, with_driver_queue, with_record};
+ghost use Rattle.by_device.specs.ByDevice.{of, with};
+ghost use Rattle.drv_core.specs.Driver.{known_of, new_record, no_queues, with_driver_queue};
 ghost use Rattle.drv_core.specs.Lowering.{post_lowering, reap_lowering, signals_lowering};
 
 use crate::device::DeviceDriver;
@@ -50,8 +51,8 @@ impl Driver {
 
     /// What is kept of a device.
     pub fn device(&self, dev: Dev) -> &DeviceDriver
-        ensures value { result.now ≡ record_of self.now dev }
-        ensures queues { length (record_of self.now dev).queues ≡ queue_count dev }
+        ensures value { result.now ≡ of self.now dev }
+        ensures queues { length (of self.now dev).queues ≡ queue_count dev }
     {
         match dev {
             Dev::Blk => &self.blk,
@@ -62,7 +63,7 @@ impl Driver {
 
     /// A device was probed.
     pub fn set_probed(&mut self, dev: Dev)
-        ensures { self.new ≡ with_record self.old dev (record (record_of self.old dev) { probed = true }) }
+        ensures { self.new ≡ with self.old dev (record (of self.old dev) { probed = true }) }
     {
         match dev {
             Dev::Blk => self.blk.set_probed(),
@@ -73,7 +74,7 @@ impl Driver {
 
     /// A device was reset, and this status was read back.
     pub fn reset(&mut self, dev: Dev, status: u8)
-        ensures { self.new ≡ with_record self.old dev (record (record_of self.old dev) { reset_since = true; status = status; accepted = 0; queues = no_queues dev }) }
+        ensures { self.new ≡ with self.old dev (record (of self.old dev) { reset_since = true; status = status; accepted = 0; queues = no_queues dev }) }
     {
         match dev {
             Dev::Blk => self.blk.reset(status),
@@ -84,7 +85,7 @@ impl Driver {
 
     /// This status of a device was read.
     pub fn set_status(&mut self, dev: Dev, status: u8)
-        ensures { self.new ≡ with_record self.old dev (record (record_of self.old dev) { status = status }) }
+        ensures { self.new ≡ with self.old dev (record (of self.old dev) { status = status }) }
     {
         match dev {
             Dev::Blk => self.blk.set_status(status),
@@ -95,7 +96,7 @@ impl Driver {
 
     /// These features of a device were accepted.
     pub fn set_accepted(&mut self, dev: Dev, features: Features)
-        ensures { self.new ≡ with_record self.old dev (record (record_of self.old dev) { accepted = features.0 }) }
+        ensures { self.new ≡ with self.old dev (record (of self.old dev) { accepted = features.0 }) }
     {
         match dev {
             Dev::Blk => self.blk.set_accepted(features),
@@ -121,7 +122,7 @@ impl Driver {
     /// Posts a buffer to a queue; this was not refused.
     pub fn post<P: Port>(&mut self, port: &mut P, dev: Dev, queue: u16, buf: &PostBuf) -> Reply
         requires within { IsBufferWithin (posted_buffer buf.now) }
-        requires allowed { refusal_of (known_of (record_of self.old dev)) (Post dev queue (posted_buffer buf.now)) ≡ None }
+        requires allowed { refusal_of (known_of (of self.old dev)) (Post dev queue (posted_buffer buf.now)) ≡ None }
         requires credit { GREATEST_COST ≤ P.credit port.old }
         ensures { (bytes : List ℕ) → Gives P.step P.marking (post_lowering self.old dev queue (posted_buffer buf.now)) port.old (record { reply = reply_value result bytes; known = self.new }) port.new }
     {
@@ -134,7 +135,7 @@ impl Driver {
 
     /// Reaps a used buffer of a queue, whose written bytes are then in the room; this was not refused.
     pub fn reap<P: Port>(&mut self, port: &mut P, dev: Dev, queue: u16, room: &mut Room) -> Reply
-        requires allowed { refusal_of (known_of (record_of self.old dev)) (Reap dev queue) ≡ None }
+        requires allowed { refusal_of (known_of (of self.old dev)) (Reap dev queue) ≡ None }
         requires credit { GREATEST_COST ≤ P.credit port.old }
         ensures { Gives P.step P.marking (reap_lowering self.old dev queue) port.old (record { reply = reply_value result room.new.items; known = self.new }) port.new }
     {
@@ -147,7 +148,7 @@ impl Driver {
 
     /// Asks for a signal per used buffer of a queue, or for none; this was not refused.
     pub fn set_signals<P: Port>(&mut self, port: &mut P, dev: Dev, queue: u16, on: bool) -> Reply
-        requires allowed { refusal_of (known_of (record_of self.old dev)) (Arm dev queue) ≡ None }
+        requires allowed { refusal_of (known_of (of self.old dev)) (Arm dev queue) ≡ None }
         requires credit { GREATEST_COST ≤ P.credit port.old }
         ensures { (bytes : List ℕ) → Gives P.step P.marking (signals_lowering self.old dev queue on) port.old (record { reply = reply_value result bytes; known = self.new }) port.new }
     {

@@ -22,7 +22,8 @@ use Rattle.dev_status.specs.Status.{has_bits}
 use Rattle.vq_common.specs.declared.chain.RingCfg.{RingCfg}
 use Rattle.vt_layout.specs.QueueBlock.{QUEUE_AREAS, driver_area, device_area}
 use Rattle.vq_common.specs.Queue.{new_driver_queue}
-use Rattle.drv_core.specs.Driver.{DriverRecord, DeviceRecord, Ended, ends, no_queues, record_of, with_record, with_driver_queue}
+use Rattle.by_device.specs.ByDevice.{of, with}
+use Rattle.drv_core.specs.Driver.{DriverRecord, DeviceRecord, Ended, ends, no_queues, with_driver_queue}
 use Rattle.drv_core.specs.Lowering.{Lowering, lowered, post_lowering, reap_lowering, signals_lowering}
 
 -- the number that answers a load of so many bytes: its low bytes; another answer counts as 0 (our own)
@@ -54,7 +55,7 @@ high_half n = n / 2 ^ 32
 
 -- what a driver keeps of a device changes
 abbrev pub changed : DriverRecord → Dev → (DeviceRecord → DeviceRecord) → DriverRecord
-changed known dev change = with_record known dev (change (record_of known dev))
+changed known dev change = with known dev (change (of known dev))
 
 -- the magic value, the version, the device and the vendor (VIRTIO 1.2, 4.2.3.1)
 abbrev pub probe_lowering : DriverRecord → Dev → Program Ended
@@ -116,7 +117,7 @@ store_areas dev cfg next =
 -- the areas are cleared, the queue is selected and described, and then it is set (VIRTIO 1.2, 4.2.3.2)
 abbrev pub setq_lowering : DriverRecord → Dev → ℕ → ℕ → Program Ended
 setq_lowering known dev n size =
-    let cfg = cfg_of (record_of known dev) dev n size in
+    let cfg = cfg_of (of known dev) dev n size in
     Do (Zero (queue_block dev n) QUEUE_AREAS) (λ _ _. store dev QueueSel n (load dev QueueReady (λ _. load dev QueueNumMax (λ _. store dev QueueNum size
     (store_areas dev cfg (store dev QueueReady 1
     (Mark (ends reply.Good (with_driver_queue known dev n (new_driver_queue cfg (queue_block dev n)))))))))))

@@ -7,7 +7,8 @@ ghost use Rattle.vt_types.specs.Program.{Gives};
 ghost use Rattle.vt_types.specs.Reply.{reply_value};
 ghost use Rattle.vt_types.specs.Within.{IsOperationWithin};
 ghost use Rattle.state_table.specs.Refusal.{refusal_of};
-ghost use Rattle.drv_core.specs.Driver.{known_of, record_of};
+ghost use Rattle.by_device.specs.ByDevice.{of};
+ghost use Rattle.drv_core.specs.Driver.{known_of};
 ghost use Rattle.drv_mmio.specs.Lowering.{allowed_lowering, mmio_lowering};
 
 use crate::config;
@@ -33,7 +34,7 @@ fn allowed<P: Port>(
     room: &mut Room,
 ) -> Reply
     requires within { IsOperationWithin (operation op.now) }
-    requires allowed { refusal_of (known_of (record_of driver.old (device_of (operation op.now)))) (operation op.now) ≡ None }
+    requires allowed { refusal_of (known_of (of driver.old (device_of (operation op.now)))) (operation op.now) ≡ None }
     requires credit { GREATEST_COST ≤ P.credit port.old }
     ensures gives { Gives P.step P.marking (allowed_lowering driver.old (operation op.now) repeats) port.old (record { reply = reply_value result room.new.items; known = driver.new }) port.new }
 {

@@ -8,7 +8,8 @@ ghost use Rattle.vt_types.specs.Program.{Gives};
 ghost use Rattle.vt_types.specs.Reply.{reply_value};
 ghost use Rattle.vq_common.specs.Queue.{IsInBlock};
 ghost use Rattle.state_table.specs.Refusal.{refusal_of};
-ghost use Rattle.drv_core.specs.Driver.{DeviceRecord, DriverRecord, known_of, record_of};
+ghost use Rattle.by_device.specs.ByDevice.{of};
+ghost use Rattle.drv_core.specs.Driver.{DeviceRecord, DriverRecord, known_of};
 ghost use Rattle.drv_mmio.specs.Calls.{Describes, StoresAreas};
 ghost use Rattle.drv_mmio.specs.Lowering.{cfg_of, notify_lowering, setq_lowering};
 
@@ -76,7 +77,7 @@ pub fn set_queue<P: Port>(
     size: u16,
     room: &mut Room,
 ) -> Reply
-    requires allowed { refusal_of (known_of (record_of driver.old dev)) (SetQueue dev queue size) ≡ None }
+    requires allowed { refusal_of (known_of (of driver.old dev)) (SetQueue dev queue size) ≡ None }
     requires credit { GREATEST_COST ≤ P.credit port.old }
     ensures { Gives P.step P.marking (setq_lowering driver.old dev queue size) port.old (record { reply = reply_value result room.new.items; known = driver.new }) port.new }
 {

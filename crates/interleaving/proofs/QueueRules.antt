@@ -12,7 +12,8 @@ use Rattle.memory_port.specs.Puts.{AllIn, AllApart}
 use Rattle.abstract_devices.specs.World.{World}
 use Rattle.abstract_devices.specs.Operate.{operate}
 use Rattle.dev_core.specs.Bus.{Raw}
-use Rattle.drv_core.specs.Driver.{DriverRecord, Ended, ends, record_of, driver_queue, with_driver_queue}
+use Rattle.by_device.specs.ByDevice.{of}
+use Rattle.drv_core.specs.Driver.{DriverRecord, Ended, ends, driver_queue, with_driver_queue}
 use Rattle.drv_core.specs.Lowering.{queue_program, on_queue, post_reply}
 use Rattle.interleaving.specs.BusDefinition.{BusDefinition}
 use Rattle.interleaving.specs.FreeLocations.{FreeLocations, Holding, with_put}
@@ -23,7 +24,7 @@ use Rattle.interleaving.proofs.ProgramRules.{safe_as, safe_false, safe_then, saf
 
 -- the queue is set
 pub safe_on_queue : {R : Type 0} {bus : BusDefinition R} {op : Operation} {ending : Ending R Ended} (known : DriverRecord) (dev : Dev) (queue : ℕ) (q : DriverQueue) (program : DriverQueue → Program Ended)
-    {n : ℕ} {w v : World} {answer : ReplyValue} {raw : Raw R} → driver_queue (record_of known dev) queue ≡ Some q
+    {n : ℕ} {w v : World} {answer : ReplyValue} {raw : Raw R} → driver_queue (of known dev) queue ≡ Some q
     → Safe bus op ending (program q) n w v answer raw → Safe bus op ending (queue_program known dev queue program) n w v answer raw
 safe_on_queue known dev queue q program set h = safe_as (ap (on_queue known dev queue program) set) h
 

@@ -9,7 +9,8 @@ use Rattle.state_table.specs.Refusal.{refusal_of}
 use Rattle.abstract_devices.specs.World.{World, device, known_of}
 use Rattle.abstract_devices.specs.Operate.{operate, operate_allowed, unless_refused}
 use Rattle.dev_core.specs.Bus.{Raw}
-use Rattle.drv_core.specs.Driver.{DriverRecord, Ended, ends, record_of}
+use Rattle.by_device.specs.ByDevice.{of}
+use Rattle.drv_core.specs.Driver.{DriverRecord, Ended, ends}
 use Rattle.drv_core.specs.Driver as driver
 use Rattle.drv_core.specs.Lowering.{Lowering, lowered}
 use Rattle.drv_core.specs.Lowering as lowering
@@ -24,7 +25,7 @@ abbrev pub refusal_in : World → Operation → Option Why
 refusal_in w op = refusal_of (known_of (device w (device_of op))) op
 
 abbrev pub refusal_by : DriverRecord → Operation → Option Why
-refusal_by known op = refusal_of (driver.known_of (record_of known (device_of op))) op
+refusal_by known op = refusal_of (driver.known_of (of known (device_of op))) op
 
 -- the abstract operation, where its refusal is known
 pub operate_refused : (bus : BusKind) (w : World) (op : Operation) (reason : Why) → refusal_in w op ≡ Some reason → operate bus w op ≡ record { world = w; reply = reply.Refused reason }

@@ -39,9 +39,9 @@ pub trait Simulation {
     fn keeps_events()
         ensures { (known : DriverRecord) → Kept (driven Self.Bus.table Self.Driver.lowering kind) (λ w raw. related w raw known) };
 
-    /// The console was given the same bytes in both halves.
-    fn same_console()
-        ensures { (w : World) (raw : Raw Self.Bus) (known : DriverRecord) → related w raw known → raw.devices.console ≡ w.console };
+    /// The devices hold the same in both halves.
+    fn same_contents()
+        ensures { (w : World) (raw : Raw Self.Bus) (known : DriverRecord) → related w raw known → raw.devices.contents ≡ w.contents };
 
     /// From related halves every operation of a script is in progress at its start, whatever events may come, where it has as
     /// many repeats as there may be events.

@@ -61,11 +61,11 @@ module _ (known : DriverRecord) (n : ℕ) (mode : SignalMode) (other : is_first 
       let raw2 : Raw MmioRegisters = with_put raw flags_at flags in
       let plain : q.cfg.event_idx ≡ false = at.at.here.event_idx ∙ ap (λ (accepted : ℕ). has_bits accepted EVENT_IDX) (sym r.device.known_accepted) ∙ off in
       let rests : RingRests (no_facts n) raw2.memory a2 at.at.here.ring q = record { used = at.at.here.rests.used; waiting = at.at.here.rests.waiting; part = armed at.at.here.rests.part plain mode other; known = tt } in
-      let set = changed_part (no_facts n) (no_facts n) raw.memory raw2.memory w.con.status w.con.accepted n at.a a2 at.s q q at.at.here refl refl refl rests in
+      let set = changed_part (no_facts n) (no_facts n) raw.memory raw2.memory w.devices.con.status w.devices.con.accepted n at.a a2 at.s q q at.at.here refl refl refl rests in
       let changes = put_changes n raw.memory q.base flags_at flags at.at.here.block (record { starts = omega arith; ends = omega arith }) (inside w raw r) in
-      let left : Related (record w { con = with_queue w.con n a2 }) raw2 (with_driver_queue known Con n q) = changed_queue no_facts no_facts w raw known raw2.memory n q at r changes (λ j other used h. tt) a2 q set in
-      let does : operate Mmio w op ≡ record { world = record w { con = with_queue w.con n a2 }; reply = reply.Good } = allowed_at op on r allowed ∙ op_is w ∙ on_queue_is w n with_mode at.a at.at.in_world in
-      subst (λ (o : Outcome). (o.reply ≡ reply.Good) × Related o.world raw2 known) (sym does) (refl, subst (Related (record w { con = with_queue w.con n a2 }) raw2) (same_known known n q found) left)
+      let left : Related (record w { devices = record w.devices { con = with_queue w.devices.con n a2 } }) raw2 (with_driver_queue known Con n q) = changed_queue no_facts no_facts w raw known raw2.memory n q at r changes (λ j other used h. tt) a2 q set in
+      let does : operate Mmio w op ≡ record { world = record w { devices = record w.devices { con = with_queue w.devices.con n a2 } }; reply = reply.Good } = allowed_at op on r allowed ∙ op_is w ∙ on_queue_is w n with_mode at.a at.at.in_world in
+      subst (λ (o : Outcome). (o.reply ≡ reply.Good) × Related o.world raw2 known) (sym does) (refl, subst (Related (record w { devices = record w.devices { con = with_queue w.devices.con n a2 } }) raw2) (same_known known n q found) left)
 
   signals_safe : {left : ℕ} {w v : World} {answer : ReplyValue} {raw : Raw MmioRegisters} → Related w raw known
       → Safe mmio op (Ends mmio Related) (Do (Put flags_at flags) (λ _ _. Mark (ends reply.Good (with_driver_queue known Con n q)))) left w v answer raw

@@ -19,7 +19,8 @@ use Rattle.vt_layout.specs.Fields.{field_parts}
 use Rattle.vq_common.specs.Queue.{DriverQueue, post_program}
 use Rattle.vq_split_drv.specs.Post.{split_post_accesses, split_posted}
 use Rattle.vq_split_drv.specs.Reap.{split_reap_program, split_signals_program}
-use Rattle.drv_core.specs.Driver.{DriverRecord, Ended, driver_queue, known_of, record_of, with_driver_queue}
+use Rattle.by_device.specs.ByDevice.{of}
+use Rattle.drv_core.specs.Driver.{DriverRecord, Ended, driver_queue, known_of, with_driver_queue}
 use Rattle.drv_core.specs.Lowering.{on_queue, post_reply, queue_program, reap_reply, signals_lowering, unless_refused}
 use Rattle.state_table.specs.Refusal.{refusal_of}
 use Rattle.drv_mmio.specs.Lowering.{allowed_lowering, config_round, load, load_parts, mmio_lowering, number_of, readcfg_lowering, store_parts, value_read}
@@ -93,7 +94,7 @@ store_is_short known dev (p ∷ ps) value = (omega arith, λ _ _. tt)
 -- what is done with a ring is short, whether the queue is set or not
 ring_is_short : {X : Type 0} (known : DriverRecord) (dev : Dev) (n : ℕ) (program : DriverQueue → Program X) (next : DriverQueue → X → Ended) (most : ℕ) → most ≤ LONGEST_TRACE
     → ((q : DriverQueue) → CountsAtMost longest_access_line (program q) most) → IsShort (queue_program known dev n (λ q. and_then (program q) (λ x. End (next q x))))
-ring_is_short known dev n program next most few short = either (driver_queue (record_of known dev) n)
+ring_is_short known dev n program next most few short = either (driver_queue (of known dev) n)
   where
     either : (o : Option DriverQueue) → IsShort (on_queue known dev n (λ q. and_then (program q) (λ x. End (next q x))) o)
     either None = tt
@@ -136,4 +137,4 @@ unless_is_short known (Some reason) program short = tt
 -- any operation of a script
 pub operation_is_short : (op : Operation) (known : DriverRecord) (repeats : ℕ) → IsAsked op → repeats ≤ MOST_EVENTS + 1 → CountsAtMost longest_access_line (mmio_lowering known op repeats) LONGEST_TRACE
 operation_is_short op known repeats asked few =
-    unless_is_short known (refusal_of (known_of (record_of known (device_of op))) op) (allowed_lowering known op repeats) (allowed_is_short op known repeats asked few)
+    unless_is_short known (refusal_of (known_of (of known (device_of op))) op) (allowed_lowering known op repeats) (allowed_is_short op known repeats asked few)

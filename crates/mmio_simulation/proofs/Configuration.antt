@@ -24,6 +24,7 @@ use Rattle.state_table.specs.Refusal.{greatest_value, is_writable}
 use Rattle.abstract_devices.specs.World.{World}
 use Rattle.abstract_devices.specs.Operate.{field_bytes, happen, write_field}
 use Rattle.dev_core.specs.Bus.{Raw, raw_access, raw_event}
+use Rattle.device_contents.specs.Contents.{Contents, with_console, with_emergency}
 use Rattle.dev_core.specs.Config.{bytes_at, console_configuration}
 use Rattle.dev_core.specs.Devices.{Devices}
 use Rattle.drv_core.specs.Driver.{DriverRecord, Ended, known_of}
@@ -38,7 +39,7 @@ use Rattle.interleaving.proofs.MemoryRules.{safe_onward}
 use Rattle.interleaving.proofs.ProgramRules.{safe_as, safe_ended, safe_false, safe_true}
 use Rattle.interleaving.proofs.RefusalRules.{refusal_by}
 use Rattle.mmio_simulation.specs.Bus.{mmio}
-use Rattle.mmio_simulation.specs.Related.{ConsoleContent, Related, console_of}
+use Rattle.mmio_simulation.specs.Related.{Related}
 use Rattle.mmio_simulation.proofs.EventRegisters.{ConfigurationAfter, KeepsConfiguration, Moved, Still, event_configuration}
 use Rattle.mmio_simulation.proofs.EventsKeep.{related_kept}
 use Rattle.mmio_simulation.proofs.RefusedAlike.{allowed_at}
@@ -58,8 +59,8 @@ with_number raw x = (Word x, [], raw)
 -- a field of the console is one part, whose bytes are those of the field
 record IsPart (field : Field) (p : ConfigPart) : Type 0 where
   parts : field_parts field ≡ p ∷ []
-  loads : (raw : Raw MmioRegisters) → raw_access mmio_table (Load (config_address Con p.off) p.width) raw ≡ with_number raw (config_number p raw.devices.cols raw.devices.rows)
-  reads : (w : World) → part_read p w.cols w.rows ≡ field_bytes w field
+  loads : (raw : Raw MmioRegisters) → raw_access mmio_table (Load (config_address Con p.off) p.width) raw ≡ with_number raw (config_number p raw.devices.contents.console.cols raw.devices.contents.console.rows)
+  reads : (w : World) → part_read p w.contents.console.cols w.contents.console.rows ≡ field_bytes w field
 
 two_bytes : (a b : ℕ) → a < 256 → b < 256 → little_bytes 2 ((a + 256 * (b + 256 * 0)) % 2 ^ 16) ≡ a ∷ b ∷ []
 two_bytes a b low high =
@@ -71,8 +72,8 @@ size_read : (n : ℕ) → little_bytes 2 ((n % 256 + 256 * (n / 256 % 256 + 256 
 size_read n = two_bytes (n % 256) (n / 256 % 256) (omega arith) (omega arith)
 
 part_of : (field : Field) → device_of_field field ≡ Con → (p : ConfigPart) × IsPart field p
-part_of Cols is = (record { off = 0; width = 2 }, record { parts = refl; loads = λ raw. refl; reads = λ w. size_read w.cols })
-part_of Rows is = (record { off = 2; width = 2 }, record { parts = refl; loads = λ raw. refl; reads = λ w. size_read w.rows })
+part_of Cols is = (record { off = 0; width = 2 }, record { parts = refl; loads = λ raw. refl; reads = λ w. size_read w.contents.console.cols })
+part_of Rows is = (record { off = 2; width = 2 }, record { parts = refl; loads = λ raw. refl; reads = λ w. size_read w.contents.console.rows })
 part_of Ports is = (record { off = 4; width = 4 }, record { parts = refl; loads = λ raw. refl; reads = λ w. refl })
 part_of Emerg is = (record { off = 8; width = 4 }, record { parts = refl; loads = λ raw. refl; reads = λ w. refl })
 part_of Capacity is = absurd (cc)
@@ -84,10 +85,10 @@ part_of NetStatus is = absurd (cc)
 
 -- what is read of a part while the console is so large
 abbrev Reads : ConfigPart → List ℕ → Devices → Type 0
-Reads p bytes s = part_read p s.cols s.rows ≡ bytes
+Reads p bytes s = part_read p s.contents.console.cols s.contents.console.rows ≡ bytes
 
 reads_still : (p : ConfigPart) (bytes : List ℕ) (s s2 : Devices) → KeepsConfiguration s s2 → Reads p bytes s → Reads p bytes s2
-reads_still p bytes s s2 same is = ap (λ (cols : ℕ). part_read p cols s2.rows) same.cols ∙ ap (part_read p s.cols) same.rows ∙ is
+reads_still p bytes s s2 same is = ap (λ (cols : ℕ). part_read p cols s2.contents.console.rows) same.cols ∙ ap (part_read p s.contents.console.cols) same.rows ∙ is
 
 module _ (known : DriverRecord) where
   -- since the generation was g it changed so many times, each by an event; as long as it did not, something holds of the devices
@@ -145,7 +146,7 @@ module _ (known : DriverRecord) where
 
   -- the load of the part
   part_load : {repeats g n : ℕ} {w v : World} {raw : Raw MmioRegisters} (p : ConfigPart) → Since repeats g nothing n w v raw
-      → Since repeats g (Reads p (part_read p raw.devices.cols raw.devices.rows)) n w v raw
+      → Since repeats g (Reads p (part_read p raw.devices.contents.console.cols raw.devices.contents.console.rows)) n w v raw
   part_load p h = record { related = h.related; changes = h.changes; few = h.few; generation = h.generation; low = h.low; holds = λ none. refl }
 
   module _ (field : Field) (p : ConfigPart) (part : IsPart field p) where
@@ -164,7 +165,7 @@ module _ (known : DriverRecord) where
         safe_as (ap (λ (parts : List ConfigPart). load_parts Con parts (λ bytes. load Con ConfigGeneration (λ after. next g bytes after))) part.parts)
         (safe_access (Since repeats g nothing) (since_kept repeats g nothing (λ s s2 same is. tt)) (first_load h)
         (λ n w v raw h.
-        let bytes : List ℕ = part_read p raw.devices.cols raw.devices.rows in
+        let bytes : List ℕ = part_read p raw.devices.contents.console.cols raw.devices.contents.console.rows in
         safe_onward (Load (config_address Con p.off) p.width)
         (λ a _. load Con ConfigGeneration (λ after. next g (little_bytes p.width (number_of p.width a) ++ []) after)) raw (part.loads raw)
         (safe_load_knowing ConfigGeneration (Since repeats g (Reads p bytes)) (since_kept repeats g (Reads p bytes) (reads_still p bytes)) (part_load p h)
@@ -175,7 +176,7 @@ module _ (known : DriverRecord) where
         → SafeFrom (value_read known bytes) n w v answer raw
     value_safe allowed bytes {w = w} {raw = raw} h is =
         let same : field_bytes w field ≡ bytes
-        = sym (part.reads w) ∙ sym (ap (λ (c : ConsoleContent). part_read p c.cols c.rows) h.console) ∙ is
+        = sym (part.reads w) ∙ sym (ap (λ (c : Contents). part_read p c.console.cols c.console.rows) h.contents) ∙ is
         in
         safe_mark_as (allowed_at (ReadConfig Con field) refl h allowed) (safe_ended (related_kept known) (ap reply.Value same) h)
 
@@ -222,17 +223,17 @@ readcfg_safe known field of_console allowed repeats enough bound h =
 
 -- the raw machine with another byte on the console
 abbrev with_byte : Raw MmioRegisters → ℕ → Raw MmioRegisters
-with_byte raw byte = record raw { devices = record raw.devices { console = raw.devices.console ++ byte ∷ [] } }
+with_byte raw byte = record raw { devices = record raw.devices { contents = with_console (with_emergency byte) raw.devices.contents } }
 
 byte_written : {w : World} {raw : Raw MmioRegisters} {known : DriverRecord} (value : ℕ) → value ≤ 255 → Related w raw known → Related (write_field w Emerg value) (with_byte raw (value % 256)) known
 byte_written {w = w} value small h = record {
   device = h.device;
   queues = h.queues;
   count = h.count;
-  console =
+  contents =
       let byte : value % 256 ≡ value = omega (arith, small) in
-      ap (λ (c : ConsoleContent). record c { console = c.console ++ value % 256 ∷ [] }) h.console
-      ∙ ap (λ (byte : ℕ). record (console_of w) { console = w.console ++ byte ∷ [] }) byte;
+      ap (with_console (with_emergency (value % 256))) h.contents
+      ∙ ap (λ (byte : ℕ). with_console (with_emergency byte) w.contents) byte;
   signals = h.signals;
   memory = h.memory;
 }

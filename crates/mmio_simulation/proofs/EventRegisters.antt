@@ -11,6 +11,7 @@ use Rattle.dev_status.specs.Status.{has_bits}
 use Rattle.dev_core.specs.declared.served.Served.{Served}
 use Rattle.dev_core.specs.declared.served.Served.TheVariants as served
 use Rattle.dev_core.specs.Bus.{Raw, after_serve, raw_event, signalled}
+use Rattle.device_contents.specs.Contents.{content_after}
 use Rattle.dev_core.specs.Device.{QueueState, next_generation}
 use Rattle.dev_core.specs.Devices.{Devices}
 use Rattle.dev_core.specs.Ring.{SetRing, walk}
@@ -33,8 +34,8 @@ pub record KeepsFeatures (s s2 : Devices) : Type 0 where
 
 pub record KeepsConfiguration (s s2 : Devices) : Type 0 where
   pub generation : s2.con.generation ≡ s.con.generation
-  pub cols : s2.cols ≡ s.cols
-  pub rows : s2.rows ≡ s.rows
+  pub cols : s2.contents.console.cols ≡ s.contents.console.cols
+  pub rows : s2.contents.console.rows ≡ s.contents.console.rows
 
 same_page : (p : Page) → KeepsPage p p
 same_page p = record { device_features_select = refl; driver_features_select = refl; queue_select = refl; queues = refl }
@@ -102,7 +103,7 @@ module _ (raw : Raw MmioRegisters) where
 
   -- a console of another size, with its signal or without
   abbrev pub resized : ℕ → ℕ → Devices
-  resized cols rows = record raw.devices { con = next_generation raw.devices.con; cols = cols; rows = rows }
+  resized cols rows = record raw.devices { con = next_generation raw.devices.con; contents = content_after (event.Consize cols rows) raw.devices.con.status raw.devices.contents }
 
   pub by_consize : (M : Raw MmioRegisters → Type 0) (cols rows : ℕ) → M (record { registers = signal CONFIGURATION_CHANGE Con raw.registers; devices = resized cols rows; memory = raw.memory })
       → M (record { registers = raw.registers; devices = resized cols rows; memory = raw.memory }) → M (raw_event mmio_table raw (event.Consize cols rows))

@@ -13,7 +13,8 @@ use Rattle.vt_layout.specs.Interrupts.{USED_BUFFER, CONFIGURATION_CHANGE}
 use Rattle.vq_common.specs.Queue.{DriverQueue, Given}
 use Rattle.vq_split_pair.specs.Pair.{room_of}
 use Rattle.dev_status.specs.Status.{has_bits}
-use Rattle.dev_console.specs.Console.{ConsoleAnswer, with_input}
+use Rattle.dev_console.specs.Console.{ConsoleAnswer}
+use Rattle.device_contents.specs.Contents.{content_after, with_answer, with_console}
 use Rattle.abstract_devices.specs.World.{World, AbstractDevice, AbstractQueue}
 use Rattle.abstract_devices.specs.World as abstract
 use Rattle.abstract_devices.specs.Operate.{happen, buffer_of}
@@ -30,7 +31,7 @@ use Rattle.ring_part.specs.RingPart.{RingPart}
 use Rattle.ring_part.proofs.Serve.{Served, served, served_ring, used_front, served_length, served_elsewhere}
 use Rattle.interleaving.specs.Kept.{Kept}
 use Rattle.mmio_simulation.specs.Bus.{mmio}
-use Rattle.mmio_simulation.specs.Related.{ConsoleContent, EachQueueWith, QueuePartWith, Related, RelatedWith, SetPartWith, SignalPart, UsedFacts, bit_if, has_any, no_facts}
+use Rattle.mmio_simulation.specs.Related.{EachQueueWith, QueuePartWith, Related, RelatedWith, SetPartWith, SignalPart, UsedFacts, bit_if, has_any, no_facts}
 use Rattle.mmio_simulation.proofs.Blocks.{blocks_apart}
 use Rattle.mmio_simulation.proofs.PartChanges.{device_kept, kicked_part}
 use Rattle.mmio_simulation.proofs.Queues.{IsSetAt, slice_set-same, each_replaced, queue_framed}
@@ -106,27 +107,27 @@ module _ (F : UsedFacts) {w : World} {raw : Raw MmioRegisters} {known : DriverRe
   module _ {n : ℕ} {a : AbstractQueue} {s : QueueState} {q : DriverQueue} (at : IsSetAt F w raw known n a s q) where
     -- a queue that changed, with memory changed in its block alone
     queues_kept : (mem2 : List ℕ) (a2 : AbstractQueue) (s2 : QueueState) → length mem2 ≡ length raw.memory → ((b k : ℕ) → Apart q.base BLOCK_LEN b k → bytes_at mem2 b k ≡ bytes_at raw.memory b k)
-        → SetPartWith (F n) mem2 w.con.status w.con.accepted n a2 s2 q
-        → EachQueueWith F mem2 w.con.status w.con.accepted 0 (slice_set w.con.queues n (Some a2)) (slice_set raw.devices.con.queues n s2) known.con.queues
+        → SetPartWith (F n) mem2 w.devices.con.status w.devices.con.accepted n a2 s2 q
+        → EachQueueWith F mem2 w.devices.con.status w.devices.con.accepted 0 (slice_set w.devices.con.queues n (Some a2)) (slice_set raw.devices.con.queues n s2) known.con.queues
     queues_kept mem2 a2 s2 long elsewhere part =
         let location : 0 + n ≡ n = omega arith in
-        subst (λ (qs : List (Option DriverQueue)). EachQueueWith F mem2 w.con.status w.con.accepted 0 (slice_set w.con.queues n (Some a2)) (slice_set raw.devices.con.queues n s2) qs)
+        subst (λ (qs : List (Option DriverQueue)). EachQueueWith F mem2 w.devices.con.status w.devices.con.accepted 0 (slice_set w.devices.con.queues n (Some a2)) (slice_set raw.devices.con.queues n s2) qs)
         (slice_set-same known.con.queues n (Some q) at.in_record)
-        (each_replaced F F raw.memory mem2 w.con.status w.con.status w.con.accepted w.con.accepted 0 w.con.queues raw.devices.con.queues known.con.queues n (Some a2) s2 (Some q)
-        (λ m other b t p kept. queue_framed (F m) raw.memory mem2 w.con.status w.con.accepted m long
+        (each_replaced F F raw.memory mem2 w.devices.con.status w.devices.con.status w.devices.con.accepted w.devices.con.accepted 0 w.devices.con.queues raw.devices.con.queues known.con.queues n (Some a2) s2 (Some q)
+        (λ m other b t p kept. queue_framed (F m) raw.memory mem2 w.devices.con.status w.devices.con.accepted m long
         (elsewhere (queue_block Con m) BLOCK_LEN (blocks_apart q.base n m at.here.block (λ e. other (e ∙ sym location)))) b t p kept)
-        (subst (λ (k : ℕ). QueuePartWith (F k) mem2 w.con.status w.con.accepted k (Some a2) s2 (Some q)) (sym location) part)
+        (subst (λ (k : ℕ). QueuePartWith (F k) mem2 w.devices.con.status w.devices.con.accepted k (Some a2) s2 (Some q)) (sym location) part)
         r.queues)
 
-    ends_kept : RelatedWith F (record w { con = abstract.with_queue w.con n (record a { kick = false }) }) (without_kick raw n s) known
+    ends_kept : RelatedWith F (record w { devices = record w.devices { con = abstract.with_queue w.devices.con n (record a { kick = false }) } }) (without_kick raw n s) known
     ends_kept =
         let a2 : AbstractQueue = record a { kick = false } in
         let s2 : QueueState = record s { kick = false } in
         record {
           device = device_kept r.device.generation r.device;
-          queues = queues_kept raw.memory a2 s2 refl (λ b k apart. refl) (kicked_part (F n) raw.memory w.con.status w.con.accepted n a s q false at.here);
-          count = length-set w.con.queues n (Some a2) ∙ r.count;
-          console = r.console;
+          queues = queues_kept raw.memory a2 s2 refl (λ b k apart. refl) (kicked_part (F n) raw.memory w.devices.con.status w.devices.con.accepted n a s q false at.here);
+          count = length-set w.devices.con.queues n (Some a2) ∙ r.count;
+          contents = r.contents;
           signals = r.signals;
           memory = r.memory;
         }
@@ -134,7 +135,7 @@ module _ (F : UsedFacts) {w : World} {raw : Raw MmioRegisters} {known : DriverRe
     answers_kept : Closed (F n) → (h : Held) (rest : List Held) (x : ConsoleAnswer) → RingPart raw.memory a at.here.ring q at.here.rests.used [] (h ∷ rest) → length x.written ≤ room_of h.buffer
         → RelatedWith F (answered w n a (buffer_of h.buffer) (map available_of rest) x) (with_given raw n s x (served_ring raw.memory at.here.ring (chain_of_held q.base h) x.written)) known
     answers_kept closed h rest x part few =
-        let p : SetPartWith (F n) raw.memory w.con.status w.con.accepted n a s q = at.here in
+        let p : SetPartWith (F n) raw.memory w.devices.con.status w.devices.con.accepted n a s q = at.here in
         let u : UsedHeld = record { held = h; written = x.written } in
         let g : Given = served_ring raw.memory p.ring (chain_of_held q.base h) x.written in
         let gave : Served raw.memory a p.ring q p.rests.used [] h rest x.written = served x.written part few in
@@ -153,11 +154,11 @@ module _ (F : UsedFacts) {w : World} {raw : Raw MmioRegisters} {known : DriverRe
                 indirect = p.indirect;
                 event_idx = p.event_idx;
               });
-          count = length-set w.con.queues n (Some a2) ∙ r.count;
-          console = ap (λ (c : ConsoleContent). record c { waiting = x.waiting; console = x.console }) r.console;
+          count = length-set w.devices.con.queues n (Some a2) ∙ r.count;
+          contents = ap (with_console (with_answer x)) r.contents;
           signals =
-              subst (λ (t : Bool). SignalPart (if t then with_number n w.con.signalled else w.con.signalled) w.con.config_changed (with_queue_signal g.signals raw.registers).con) gave.signals
-              (queue_signal_kept g.signals n w.con.signalled w.con.config_changed raw.registers r.signals);
+              subst (λ (t : Bool). SignalPart (if t then with_number n w.devices.con.signalled else w.devices.con.signalled) w.devices.con.config_changed (with_queue_signal g.signals raw.registers).con) gave.signals
+              (queue_signal_kept g.signals n w.devices.con.signalled w.devices.con.config_changed raw.registers r.signals);
           memory = served_length x.written part few ∙ r.memory;
         }
 
@@ -167,25 +168,25 @@ module _ (F : UsedFacts) {w : World} {raw : Raw MmioRegisters} {known : DriverRe
         device = r.device;
         queues = r.queues;
         count = r.count;
-        console = ap (λ (c : ConsoleContent). record c { waiting = with_input c.waiting bytes }) r.console;
+        contents = ap (content_after (event.Key bytes) raw.devices.con.status) r.contents;
         signals = r.signals;
         memory = r.memory;
       }
 
   consize_kept : (cols rows : ℕ) → RelatedWith F (happen w (event.Consize cols rows)) (raw_event mmio_table raw (event.Consize cols rows)) known
   consize_kept cols rows =
-      let s : Devices = record raw.devices { con = next_generation raw.devices.con; cols = cols; rows = rows } in
+      let s : Devices = record raw.devices { con = next_generation raw.devices.con; contents = content_after (event.Consize cols rows) raw.devices.con.status raw.devices.contents } in
       let drives : Bool = has_bits raw.devices.con.status.status DRIVER_OK in
-      let same : drives ≡ has_bits w.con.status DRIVER_OK = ap (λ (status : ℕ). has_bits status DRIVER_OK) r.device.status in
+      let same : drives ≡ has_bits w.devices.con.status DRIVER_OK = ap (λ (status : ℕ). has_bits status DRIVER_OK) r.device.status in
       subst (λ (raw2 : Raw MmioRegisters). RelatedWith F (happen w (event.Consize cols rows)) raw2 known) (sym (after_change_is drives raw.registers s raw.memory))
       (record {
         device = device_kept (mod-lt (raw.devices.con.generation + 1) (omega arith)) r.device;
         queues = r.queues;
         count = r.count;
-        console = ap (λ (c : ConsoleContent). record c { cols = cols; rows = rows }) r.console;
+        contents = ap (content_after (event.Consize cols rows) raw.devices.con.status) r.contents;
         signals =
-            subst (λ (changes : Bool). SignalPart w.con.signalled (w.con.config_changed || changes) (with_config_signal drives raw.registers).con) same
-            (config_signal_kept drives w.con.signalled w.con.config_changed raw.registers r.signals);
+            subst (λ (changes : Bool). SignalPart w.devices.con.signalled (w.devices.con.config_changed || changes) (with_config_signal drives raw.registers).con) same
+            (config_signal_kept drives w.devices.con.signalled w.devices.con.config_changed raw.registers r.signals);
         memory = r.memory;
       })
 

@@ -140,7 +140,7 @@ module _ (known : DriverRecord) (features : ℕ) (driven : known.con.status ≡ 
     };
     queues = h.queues;
     count = h.count;
-    console = h.console;
+    contents = h.contents;
     signals = h.signals;
     memory = h.memory;
   }
@@ -164,13 +164,13 @@ module _ (known : DriverRecord) (features : ℕ) (driven : known.con.status ≡ 
   select_second {raw = raw} h =
       record { half = record { related = page_changed (selecting_driver raw.registers.con 1) refl refl h.related; low = h.low }; select = refl }
 
-  none_agreed : {w : World} {raw : Raw MmioRegisters} → Related w raw known → IsAgreed w.con.status → ⊥
+  none_agreed : {w : World} {raw : Raw MmioRegisters} → Related w raw known → IsAgreed w.devices.con.status → ⊥
   none_agreed h (inl is) = let status : known.con.status ≡ AGREED = h.device.known_status ∙ is in omega (arith, status, driven)
   none_agreed h (inr is) = let status : known.con.status ≡ RUNNING = h.device.known_status ∙ is in omega (arith, status, driven)
 
   -- all of them are accepted, in the world too
   accepted : {w : World} (raw : Raw MmioRegisters) (a : ℕ) → a ≡ features → Related w (accepting known.con.accepted raw) known
-      → Related (record w { con = record w.con { accepted = features } }) (accepting a raw) (accepted_record known features)
+      → Related (record w { devices = record w.devices { con = record w.devices.con { accepted = features } } }) (accepting a raw) (accepted_record known features)
   accepted {w = w} raw a is h = record {
     device = record {
       step = h.device.step;
@@ -184,19 +184,19 @@ module _ (known : DriverRecord) (features : ℕ) (driven : known.con.status ≡ 
       known_accepted = refl;
     };
     queues =
-        at_status h w.con.status features (λ agreed. absurd (none_agreed h agreed));
+        at_status h w.devices.con.status features (λ agreed. absurd (none_agreed h agreed));
     count = h.count;
-    console = h.console;
+    contents = h.contents;
     signals = h.signals;
     memory = h.memory;
   }
 
   store_high : {w : World} {raw : Raw MmioRegisters} → Second w raw
-      → Related (record w { con = record w.con { accepted = features } }) (stored DriverFeatures (high_half features) raw) (accepted_record known features)
+      → Related (record w { devices = record w.devices { con = record w.devices.con { accepted = features } } }) (stored DriverFeatures (high_half features) raw) (accepted_record known features)
   store_high {w = w} {raw = raw} h =
       let a : ℕ = raw.devices.con.status.accepted in
       let is = word_stored raw 1 (high_half features) (status_is raw known.con.accepted h.half.related) h.select in
-      subst (λ (raw : Raw MmioRegisters). Related (record w { con = record w.con { accepted = features } }) raw (accepted_record known features)) (sym is)
+      subst (λ (raw : Raw MmioRegisters). Related (record w { devices = record w.devices { con = record w.devices.con { accepted = features } } }) raw (accepted_record known features)) (sym is)
       (accepted raw (with_word a 1 (high_half features)) (both_words a features h.half.low) h.half.related)
 
   accepts_safe : refusal_by known (Accept Con features) ≡ None → {n : ℕ} {w v : World} {answer : ReplyValue} {raw : Raw MmioRegisters} → Related w raw known

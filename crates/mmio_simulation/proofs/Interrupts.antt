@@ -73,13 +73,13 @@ none_told (n ∷ ns) is = absurd (cc)
 
 -- the relation once signals were told: the status and the flags that are left
 signals_told : {w : World} {raw : Raw MmioRegisters} {known : DriverRecord} (signalled : List ℕ) (changed : Bool) (status : ℕ) → status ≡ status_word (has_any signalled) changed → Related w raw known
-    → Related (record w { con = record w.con { signalled = signalled; config_changed = changed } })
+    → Related (record w { devices = record w.devices { con = record w.devices.con { signalled = signalled; config_changed = changed } } })
     (record raw { registers = record raw.registers { con = record raw.registers.con { interrupt_status = status } } }) known
 signals_told signalled changed status is h = record {
   device = device_kept h.device.generation h.device;
   queues = h.queues;
   count = h.count;
-  console = h.console;
+  contents = h.contents;
   signals = record { status = is; queues = h.signals.queues };
   memory = h.memory;
 }
@@ -94,14 +94,14 @@ told_change known word = if has_bits word CONFIGURATION_CHANGE then acknowledge 
 module _ (known : DriverRecord) where
   record UsedStands (w : World) (raw : Raw MmioRegisters) : Type 0 where
     related : Related w raw known
-    stands : has_any w.con.signalled ≡ true
+    stands : has_any w.devices.con.signalled ≡ true
 
   used_kept : Kept mmio UsedStands
   used_kept w raw e h = record { related = related_kept known w raw e h.related; stands = signalled_stays w e h.stands }
 
   record ChangeStands (w : World) (raw : Raw MmioRegisters) : Type 0 where
     related : Related w raw known
-    stands : w.con.config_changed ≡ true
+    stands : w.devices.con.config_changed ≡ true
 
   change_kept : Kept mmio ChangeStands
   change_kept w raw e h = record { related = related_kept known w raw e h.related; stands = config_changed_stays w e h.stands }
@@ -110,34 +110,34 @@ module _ (known : DriverRecord) where
       → Safe mmio (IrqQueues Con) (Ends mmio Related) (irq_queues_lowering known Con) n w v answer raw
   irq_queues_safe allowed h =
       safe_load InterruptStatus (λ w raw. Related w raw known) (related_kept known) h
-      (λ n w v raw h. by_bit h (has_any w.con.signalled) refl (ap (λ (word : ℕ). has_bits (word % 2 ^ 32) USED_BUFFER) h.signals.status ∙ used_read (has_any w.con.signalled) w.con.config_changed))
+      (λ n w v raw h. by_bit h (has_any w.devices.con.signalled) refl (ap (λ (word : ℕ). has_bits (word % 2 ^ 32) USED_BUFFER) h.signals.status ∙ used_read (has_any w.devices.con.signalled) w.devices.con.config_changed))
     where
-      by_bit : {n : ℕ} {w v : World} {answer : ReplyValue} {raw : Raw MmioRegisters} → Related w raw known → (used : Bool) → has_any w.con.signalled ≡ used
-          → has_bits (raw.registers.con.interrupt_status % 2 ^ 32) USED_BUFFER ≡ has_any w.con.signalled
+      by_bit : {n : ℕ} {w v : World} {answer : ReplyValue} {raw : Raw MmioRegisters} → Related w raw known → (used : Bool) → has_any w.devices.con.signalled ≡ used
+          → has_bits (raw.registers.con.interrupt_status % 2 ^ 32) USED_BUFFER ≡ has_any w.devices.con.signalled
           → Safe mmio (IrqQueues Con) (Ends mmio Related) (told_queues known (raw.registers.con.interrupt_status % 2 ^ 32)) n w v answer raw
       by_bit h true is seen =
           safe_true _ (seen ∙ is)
           (safe_store InterruptAck USED_BUFFER UsedStands used_kept (record { related = h; stands = is })
           (λ n w v raw h.
           safe_mark_as (allowed_at (IrqQueues Con) refl h.related allowed)
-          (safe_ended (related_kept known) (any_told w.con.signalled h.stands)
-          (signals_told [] w.con.config_changed (left_of USED_BUFFER raw.registers.con.interrupt_status)
-          (ap (left_of USED_BUFFER) h.related.signals.status ∙ used_taken (has_any w.con.signalled) w.con.config_changed) h.related))))
+          (safe_ended (related_kept known) (any_told w.devices.con.signalled h.stands)
+          (signals_told [] w.devices.con.config_changed (left_of USED_BUFFER raw.registers.con.interrupt_status)
+          (ap (left_of USED_BUFFER) h.related.signals.status ∙ used_taken (has_any w.devices.con.signalled) w.devices.con.config_changed) h.related))))
       by_bit {w = w} {raw = raw} h false is seen =
           safe_false _ (seen ∙ is)
           (safe_mark_as (allowed_at (IrqQueues Con) refl h allowed)
-          (safe_ended (related_kept known) (none_told w.con.signalled is)
-          (signals_told [] w.con.config_changed raw.registers.con.interrupt_status
-          (h.signals.status ∙ ap (λ (used : Bool). status_word used w.con.config_changed) is) h)))
+          (safe_ended (related_kept known) (none_told w.devices.con.signalled is)
+          (signals_told [] w.devices.con.config_changed raw.registers.con.interrupt_status
+          (h.signals.status ∙ ap (λ (used : Bool). status_word used w.devices.con.config_changed) is) h)))
 
   pub irq_config_safe : refusal_by known (IrqConfig Con) ≡ None → {n : ℕ} {w v : World} {answer : ReplyValue} {raw : Raw MmioRegisters} → Related w raw known
       → Safe mmio (IrqConfig Con) (Ends mmio Related) (irq_config_lowering known Con) n w v answer raw
   irq_config_safe allowed h =
       safe_load InterruptStatus (λ w raw. Related w raw known) (related_kept known) h
-      (λ n w v raw h. by_bit h w.con.config_changed refl (ap (λ (word : ℕ). has_bits (word % 2 ^ 32) CONFIGURATION_CHANGE) h.signals.status ∙ change_read (has_any w.con.signalled) w.con.config_changed))
+      (λ n w v raw h. by_bit h w.devices.con.config_changed refl (ap (λ (word : ℕ). has_bits (word % 2 ^ 32) CONFIGURATION_CHANGE) h.signals.status ∙ change_read (has_any w.devices.con.signalled) w.devices.con.config_changed))
     where
-      by_bit : {n : ℕ} {w v : World} {answer : ReplyValue} {raw : Raw MmioRegisters} → Related w raw known → (changed : Bool) → w.con.config_changed ≡ changed
-          → has_bits (raw.registers.con.interrupt_status % 2 ^ 32) CONFIGURATION_CHANGE ≡ w.con.config_changed
+      by_bit : {n : ℕ} {w v : World} {answer : ReplyValue} {raw : Raw MmioRegisters} → Related w raw known → (changed : Bool) → w.devices.con.config_changed ≡ changed
+          → has_bits (raw.registers.con.interrupt_status % 2 ^ 32) CONFIGURATION_CHANGE ≡ w.devices.con.config_changed
           → Safe mmio (IrqConfig Con) (Ends mmio Related) (told_change known (raw.registers.con.interrupt_status % 2 ^ 32)) n w v answer raw
       by_bit h true is seen =
           safe_true _ (seen ∙ is)
@@ -145,11 +145,11 @@ module _ (known : DriverRecord) where
           (λ n w v raw h.
           safe_mark_as (allowed_at (IrqConfig Con) refl h.related allowed)
           (safe_ended (related_kept known) (ap reply.Config h.stands)
-          (signals_told w.con.signalled false (left_of CONFIGURATION_CHANGE raw.registers.con.interrupt_status)
-          (ap (left_of CONFIGURATION_CHANGE) h.related.signals.status ∙ change_taken (has_any w.con.signalled) w.con.config_changed) h.related))))
+          (signals_told w.devices.con.signalled false (left_of CONFIGURATION_CHANGE raw.registers.con.interrupt_status)
+          (ap (left_of CONFIGURATION_CHANGE) h.related.signals.status ∙ change_taken (has_any w.devices.con.signalled) w.devices.con.config_changed) h.related))))
       by_bit {w = w} {raw = raw} h false is seen =
           safe_false _ (seen ∙ is)
           (safe_mark_as (allowed_at (IrqConfig Con) refl h allowed)
           (safe_ended (related_kept known) (ap reply.Config is)
-          (signals_told w.con.signalled false raw.registers.con.interrupt_status
-          (h.signals.status ∙ ap (status_word (has_any w.con.signalled)) is) h)))
+          (signals_told w.devices.con.signalled false raw.registers.con.interrupt_status
+          (h.signals.status ∙ ap (status_word (has_any w.devices.con.signalled)) is) h)))

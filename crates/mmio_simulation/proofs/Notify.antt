@@ -45,7 +45,7 @@ kicked_state s = record s { kick = true }
 
 module _ {w : World} {raw : Raw MmioRegisters} {known : DriverRecord} (h : Related w raw known) (n : ℕ) (q : DriverQueue) (at : SetIn no_facts w raw known n q) where
   abbrev kicked_world : World
-  kicked_world = record w { con = with_queue w.con n (kicked_queue at.a) }
+  kicked_world = record w { devices = record w.devices { con = with_queue w.devices.con n (kicked_queue at.a) } }
 
   abbrev kicked_raw : Raw MmioRegisters
   kicked_raw = with_console_page raw (record { page = raw.registers.con; device = device.with_queue raw.devices.con n (kicked_state at.s) })
@@ -60,11 +60,11 @@ module _ {w : World} {raw : Raw MmioRegisters} {known : DriverRecord} (h : Relat
   kick_related = record {
     device = device_kept h.device.generation h.device;
     queues =
-        subst (λ (qs : List (Option DriverQueue)). EachQueue raw.memory w.con.status w.con.accepted 0 (slice_set w.con.queues n (Some (kicked_queue at.a))) (slice_set raw.devices.con.queues n (kicked_state at.s)) qs)
+        subst (λ (qs : List (Option DriverQueue)). EachQueue raw.memory w.devices.con.status w.devices.con.accepted 0 (slice_set w.devices.con.queues n (Some (kicked_queue at.a))) (slice_set raw.devices.con.queues n (kicked_state at.s)) qs)
         (slice_set-same known.con.queues n (Some q) at.at.in_record)
-        (queue_located h n (Some (kicked_queue at.a)) (kicked_state at.s) (Some q) (kicked_part (no_facts n) raw.memory w.con.status w.con.accepted n at.a at.s q true at.at.here));
-    count = length-set w.con.queues n (Some (kicked_queue at.a)) ∙ h.count;
-    console = h.console;
+        (queue_located h n (Some (kicked_queue at.a)) (kicked_state at.s) (Some q) (kicked_part (no_facts n) raw.memory w.devices.con.status w.devices.con.accepted n at.a at.s q true at.at.here));
+    count = length-set w.devices.con.queues n (Some (kicked_queue at.a)) ∙ h.count;
+    contents = h.contents;
     signals = h.signals;
     memory = h.memory;
   }
@@ -72,7 +72,7 @@ module _ {w : World} {raw : Raw MmioRegisters} {known : DriverRecord} (h : Relat
   kick_outcome : refusal_by known (Notify Con n) ≡ None → operate Mmio w (Notify Con n) ≡ record { world = kicked_world; reply = reply.Good }
   kick_outcome allowed =
       allowed_at (Notify Con n) refl h allowed
-      ∙ ap (λ (a : Option AbstractQueue). record { world = with_device w Con (change_queue w.con n kicked_queue a); reply = reply.Good }) (ap option_flatten at.at.in_world)
+      ∙ ap (λ (a : Option AbstractQueue). record { world = with_device w Con (change_queue w.devices.con n kicked_queue a); reply = reply.Good }) (ap option_flatten at.at.in_world)
 
 -- a queue that may be notified is set
 notified_is_set : (known : DriverRecord) (n : ℕ) → refusal_by known (Notify Con n) ≡ None → IsSet known.con n

@@ -17,7 +17,7 @@ page_changed p interrupts count h = record {
   device = h.device;
   queues = h.queues;
   count = h.count;
-  console = h.console;
+  contents = h.contents;
   signals = record { status = interrupts ∙ h.signals.status; queues = count ∙ h.signals.queues };
   memory = h.memory;
 }

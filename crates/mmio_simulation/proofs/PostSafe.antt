@@ -49,9 +49,9 @@ use Rattle.mmio_simulation.proofs.Queues.{set_in}
 use Rattle.mmio_simulation.proofs.RefusedAlike.{allowed_at}
 
 -- the abstract change of a queue that is set
-pub on_queue_is : (w : World) (n : ℕ) (change : AbstractQueue → AbstractQueue) (a : AbstractQueue) → slice_get w.con.queues n ≡ Some (Some a)
-    → on_queue w Con n change ≡ record { world = record w { con = with_queue w.con n (change a) }; reply = reply.Good }
-on_queue_is w n change a is = ap (λ (o : Option (Option AbstractQueue)). record { world = record w { con = change_queue w.con n change (option_flatten o) }; reply = reply.Good }) is
+pub on_queue_is : (w : World) (n : ℕ) (change : AbstractQueue → AbstractQueue) (a : AbstractQueue) → slice_get w.devices.con.queues n ≡ Some (Some a)
+    → on_queue w Con n change ≡ record { world = record w { devices = record w.devices { con = with_queue w.devices.con n (change a) } }; reply = reply.Good }
+on_queue_is w n change a is = ap (λ (o : Option (Option AbstractQueue)). record { world = record w { devices = record w.devices { con = change_queue w.devices.con n change (option_flatten o) } }; reply = reply.Good }) is
 
 module _ (known : DriverRecord) (n : ℕ) (b : PostedBuffer) (within : IsBufferWithin b) (allowed : refusal_by known (Post Con n b) ≡ None) where
   abbrev op : Operation
@@ -97,15 +97,15 @@ module _ (known : DriverRecord) (n : ℕ) (b : PostedBuffer) (within : IsBufferW
         let fit : index_at + length index ≤ length raw.memory = inside w raw r in
         let raw2 : Raw MmioRegisters = with_put raw index_at index in
         let known2 : DriverRecord = with_driver_queue known Con n (split_posted q b) in
-        let does : operate Mmio w op ≡ record { world = record w { con = with_queue w.con n (posted at.a) }; reply = reply.Good }
+        let does : operate Mmio w op ≡ record { world = record w { devices = record w.devices { con = with_queue w.devices.con n (posted at.a) } }; reply = reply.Good }
         = allowed_at op refl r allowed ∙ on_queue_is w n posted at.a at.at.in_world
         in
         let rests : RingRests (no_facts n) raw2.memory (posted at.a) at.at.here.ring (split_posted q b)
         = record { used = at.at.here.rests.used; waiting = at.at.here.rests.waiting ++ held_for q b ∷ []; part = posted_now part b can fits.slots fits.tag fits.table (feature w raw r) front_stands; known = tt }
         in
-        let set = changed_part (no_facts n) (no_facts n) raw.memory raw2.memory w.con.status w.con.accepted n at.a (posted at.a) at.s q (split_posted q b) at.at.here refl refl refl rests in
+        let set = changed_part (no_facts n) (no_facts n) raw.memory raw2.memory w.devices.con.status w.devices.con.accepted n at.a (posted at.a) at.s q (split_posted q b) at.at.here refl refl refl rests in
         let changes = put_changes n raw.memory q.base index_at index at.at.here.block (record { starts = omega arith; ends = omega arith }) fit in
-        let after : Related (record w { con = with_queue w.con n (posted at.a) }) raw2 known2 = changed_queue no_facts no_facts w raw known raw2.memory n q at r changes (λ j other used h. tt) (posted at.a) (split_posted q b) set in
+        let after : Related (record w { devices = record w.devices { con = with_queue w.devices.con n (posted at.a) } }) raw2 known2 = changed_queue no_facts no_facts w raw known raw2.memory n q at r changes (λ j other used h. tt) (posted at.a) (split_posted q b) set in
         subst (λ (o : Outcome). (o.reply ≡ reply.Good) × Related o.world raw2 known2) (sym does) (refl, after)
 
     begins : {left : ℕ} {w v : World} {answer : ReplyValue} {raw : Raw MmioRegisters} → Related w raw known

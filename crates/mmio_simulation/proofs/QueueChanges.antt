@@ -15,26 +15,26 @@ use Rattle.mmio_simulation.proofs.PartChanges.{changed_part, device_kept}
 use Rattle.mmio_simulation.proofs.Queues.{SetIn, each_changed, each_replaced, of_flatten, slice_set-same}
 
 module _ (F G : UsedFacts) (w : World) (raw : Raw MmioRegisters) (known : DriverRecord) (mem2 : List ℕ) (n : ℕ) (q : DriverQueue) (at : SetIn F w raw known n q) (r : RelatedWith F w raw known) (changes : ChangesBlock n raw.memory mem2) (less : Elsewhere n F G) where
-  queues_changed : (a2 : AbstractQueue) (q2 : DriverQueue) → SetPartWith (G n) mem2 w.con.status w.con.accepted n a2 at.s q2
-      → EachQueueWith G mem2 w.con.status w.con.accepted 0 (slice_set w.con.queues n (Some a2)) raw.devices.con.queues (slice_set known.con.queues n (Some q2))
+  queues_changed : (a2 : AbstractQueue) (q2 : DriverQueue) → SetPartWith (G n) mem2 w.devices.con.status w.devices.con.accepted n a2 at.s q2
+      → EachQueueWith G mem2 w.devices.con.status w.devices.con.accepted 0 (slice_set w.devices.con.queues n (Some a2)) raw.devices.con.queues (slice_set known.con.queues n (Some q2))
   queues_changed a2 q2 set =
       let location : 0 + n ≡ n = omega arith in
-      subst (λ (ss : List QueueState). EachQueueWith G mem2 w.con.status w.con.accepted 0 (slice_set w.con.queues n (Some a2)) ss (slice_set known.con.queues n (Some q2)))
+      subst (λ (ss : List QueueState). EachQueueWith G mem2 w.devices.con.status w.devices.con.accepted 0 (slice_set w.devices.con.queues n (Some a2)) ss (slice_set known.con.queues n (Some q2)))
       (slice_set-same raw.devices.con.queues n at.s at.at.in_raw)
-      (each_replaced F G raw.memory mem2 w.con.status w.con.status w.con.accepted w.con.accepted 0 w.con.queues raw.devices.con.queues known.con.queues n (Some a2) at.s (Some q2)
-      (λ k other a s o part. queue_elsewhere F G raw.memory mem2 w.con.status w.con.accepted n k changes less (λ e. other (e ∙ sym location)) a s o part)
-      (subst (λ (k : ℕ). QueuePartWith (G k) mem2 w.con.status w.con.accepted k (Some a2) at.s (Some q2)) (sym location) set)
+      (each_replaced F G raw.memory mem2 w.devices.con.status w.devices.con.status w.devices.con.accepted w.devices.con.accepted 0 w.devices.con.queues raw.devices.con.queues known.con.queues n (Some a2) at.s (Some q2)
+      (λ k other a s o part. queue_elsewhere F G raw.memory mem2 w.devices.con.status w.devices.con.accepted n k changes less (λ e. other (e ∙ sym location)) a s o part)
+      (subst (λ (k : ℕ). QueuePartWith (G k) mem2 w.devices.con.status w.devices.con.accepted k (Some a2) at.s (Some q2)) (sym location) set)
       r.queues)
 
   -- the queue changes for the abstract devices and the driver, in memory of its block alone
-  pub changed_queue : (a2 : AbstractQueue) (q2 : DriverQueue) → SetPartWith (G n) mem2 w.con.status w.con.accepted n a2 at.s q2
-      → RelatedWith G (record w { con = with_queue w.con n a2 }) (record raw { memory = mem2 }) (with_driver_queue known Con n q2)
+  pub changed_queue : (a2 : AbstractQueue) (q2 : DriverQueue) → SetPartWith (G n) mem2 w.devices.con.status w.devices.con.accepted n a2 at.s q2
+      → RelatedWith G (record w { devices = record w.devices { con = with_queue w.devices.con n a2 } }) (record raw { memory = mem2 }) (with_driver_queue known Con n q2)
   changed_queue a2 q2 set =
       record {
         device = device_kept r.device.generation r.device;
         queues = queues_changed a2 q2 set;
-        count = length-set w.con.queues n (Some a2) ∙ r.count;
-        console = r.console;
+        count = length-set w.devices.con.queues n (Some a2) ∙ r.count;
+        contents = r.contents;
         signals = r.signals;
         memory = changes.long ∙ r.memory;
       }
@@ -49,20 +49,20 @@ pub same_queue : (F G : UsedFacts) (w : World) (raw : Raw MmioRegisters) (known 
     → RelatedWith F w raw known → ChangesBlock n raw.memory mem2 → Elsewhere n F G → RingRests (G n) mem2 at.a at.at.here.ring q → RelatedWith G w (record raw { memory = mem2 }) known
 same_queue F G w raw known mem2 n q found at r changes less rests =
     let raw2 : Raw MmioRegisters = record raw { memory = mem2 } in
-    let world : record w { con = with_queue w.con n at.a } ≡ w = ap (λ (qs : List (Option AbstractQueue)). record w { con = record w.con { queues = qs } }) (slice_set-same w.con.queues n (Some at.a) at.at.in_world) in
-    let part : SetPartWith (G n) mem2 w.con.status w.con.accepted n at.a at.s q = changed_part (F n) (G n) raw.memory mem2 w.con.status w.con.accepted n at.a at.a at.s q q at.at.here refl refl refl rests in
+    let world : record w { devices = record w.devices { con = with_queue w.devices.con n at.a } } ≡ w = ap (λ (qs : List (Option AbstractQueue)). record w { devices = record w.devices { con = record w.devices.con { queues = qs } } }) (slice_set-same w.devices.con.queues n (Some at.a) at.at.in_world) in
+    let part : SetPartWith (G n) mem2 w.devices.con.status w.devices.con.accepted n at.a at.s q = changed_part (F n) (G n) raw.memory mem2 w.devices.con.status w.devices.con.accepted n at.a at.a at.s q q at.at.here refl refl refl rests in
     subst (λ (x : World). RelatedWith G x raw2 known) world
-    (subst (RelatedWith G (record w { con = with_queue w.con n at.a }) raw2) (same_known known n q found) (changed_queue F G w raw known mem2 n q at r changes less at.a q part))
+    (subst (RelatedWith G (record w { devices = record w.devices { con = with_queue w.devices.con n at.a } }) raw2) (same_known known n q found) (changed_queue F G w raw known mem2 n q at r changes less at.a q part))
 
 -- what is known besides may be left out
 pub without_facts : (F : UsedFacts) (w : World) (raw : Raw MmioRegisters) (known : DriverRecord) → RelatedWith F w raw known → Related w raw known
 without_facts F w raw known r =
     record {
       device = r.device;
-      queues = each_changed F no_facts raw.memory raw.memory w.con.status w.con.status w.con.accepted w.con.accepted 0 w.con.queues raw.devices.con.queues known.con.queues
-          (λ k above a s q part. queue_less (F k) (no_facts k) raw.memory w.con.status w.con.accepted k (λ used h. tt) a s q part) r.queues;
+      queues = each_changed F no_facts raw.memory raw.memory w.devices.con.status w.devices.con.status w.devices.con.accepted w.devices.con.accepted 0 w.devices.con.queues raw.devices.con.queues known.con.queues
+          (λ k above a s q part. queue_less (F k) (no_facts k) raw.memory w.devices.con.status w.devices.con.accepted k (λ used h. tt) a s q part) r.queues;
       count = r.count;
-      console = r.console;
+      contents = r.contents;
       signals = r.signals;
       memory = r.memory;
     }

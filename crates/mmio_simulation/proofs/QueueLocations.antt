@@ -63,7 +63,7 @@ part_at_status mem status status2 accepted accepted2 n may (Some a) s (Some q) p
 -- a queue that is not set
 pub record UnsetAt (w : World) (raw : Raw MmioRegisters) (n : ℕ) : Type 0 where
   pub state : QueueState
-  pub in_world : slice_get w.con.queues n ≡ Some None
+  pub in_world : slice_get w.devices.con.queues n ≡ Some None
   pub in_raw : slice_get raw.devices.con.queues n ≡ Some state
   pub unset_part : UnsetPart state
 
@@ -74,20 +74,20 @@ unset_part_of mem status accepted n (Some a) s None is part = absurd part
 unset_part_of mem status accepted n (Some a) s (Some q) is part = absurd (none-some q (sym is))
 
 module _ {w : World} {raw : Raw MmioRegisters} {known : DriverRecord} (h : Related w raw known) where
-  pub device_count : length raw.devices.con.queues ≡ length w.con.queues
-  device_count = device_count_from raw.memory w.con.status w.con.accepted 0 w.con.queues raw.devices.con.queues known.con.queues h.queues
+  pub device_count : length raw.devices.con.queues ≡ length w.devices.con.queues
+  device_count = device_count_from raw.memory w.devices.con.status w.devices.con.accepted 0 w.devices.con.queues raw.devices.con.queues known.con.queues h.queues
 
-  pub at_status : (status2 accepted2 : ℕ) → (IsAgreed w.con.status → IsAgreed status2 × (w.con.accepted ≡ accepted2))
-      → EachQueue raw.memory status2 accepted2 0 w.con.queues raw.devices.con.queues known.con.queues
+  pub at_status : (status2 accepted2 : ℕ) → (IsAgreed w.devices.con.status → IsAgreed status2 × (w.devices.con.accepted ≡ accepted2))
+      → EachQueue raw.memory status2 accepted2 0 w.devices.con.queues raw.devices.con.queues known.con.queues
   at_status status2 accepted2 may =
-      each_changed no_facts no_facts raw.memory raw.memory w.con.status status2 w.con.accepted accepted2 0 w.con.queues raw.devices.con.queues known.con.queues
-      (λ n above. part_at_status raw.memory w.con.status status2 w.con.accepted accepted2 n may) h.queues
+      each_changed no_facts no_facts raw.memory raw.memory w.devices.con.status status2 w.devices.con.accepted accepted2 0 w.devices.con.queues raw.devices.con.queues known.con.queues
+      (λ n above. part_at_status raw.memory w.devices.con.status status2 w.devices.con.accepted accepted2 n may) h.queues
 
   unset_found : (n : ℕ) → slice_get known.con.queues n ≡ Some None
-      → Found no_facts raw.memory w.con.status w.con.accepted n (slice_get w.con.queues n) (slice_get raw.devices.con.queues n) (slice_get known.con.queues n) → UnsetAt w raw n
+      → Found no_facts raw.memory w.devices.con.status w.devices.con.accepted n (slice_get w.devices.con.queues n) (slice_get raw.devices.con.queues n) (slice_get known.con.queues n) → UnsetAt w raw n
   unset_found n unset (NoSuchQueue in_world in_raw in_record) = absurd (none-some None (sym in_record ∙ unset))
   unset_found n unset (Queue a s q in_world in_raw in_record part) =
-      let (is, unset_part) = unset_part_of raw.memory w.con.status w.con.accepted n a s q (same_Some q None (sym in_record ∙ unset)) part in
+      let (is, unset_part) = unset_part_of raw.memory w.devices.con.status w.devices.con.accepted n a s q (same_Some q None (sym in_record ∙ unset)) part in
       record { state = s; in_world = in_world ∙ ap Some is; in_raw = in_raw; unset_part = unset_part }
 
   -- one that the driver has not set is set in neither half
@@ -96,14 +96,14 @@ module _ {w : World} {raw : Raw MmioRegisters} {known : DriverRecord} (h : Relat
 
   pub unset_below : (n : ℕ) → slice_get known.con.queues n ≡ Some None → n < 2
   unset_below n unset =
-      let below : n < length w.con.queues = slice_get_within w.con.queues n None (unset_at n unset).in_world in
+      let below : n < length w.devices.con.queues = slice_get_within w.devices.con.queues n None (unset_at n unset).in_world in
       let count = h.count in
       omega (arith, below, count)
 
   -- another queue in the place of one
-  pub queue_located : (n : ℕ) (a : Option AbstractQueue) (s : QueueState) (q : Option DriverQueue) → QueuePart raw.memory w.con.status w.con.accepted n a s q
-      → EachQueue raw.memory w.con.status w.con.accepted 0 (slice_set w.con.queues n a) (slice_set raw.devices.con.queues n s) (slice_set known.con.queues n q)
+  pub queue_located : (n : ℕ) (a : Option AbstractQueue) (s : QueueState) (q : Option DriverQueue) → QueuePart raw.memory w.devices.con.status w.devices.con.accepted n a s q
+      → EachQueue raw.memory w.devices.con.status w.devices.con.accepted 0 (slice_set w.devices.con.queues n a) (slice_set raw.devices.con.queues n s) (slice_set known.con.queues n q)
   queue_located n a s q part =
       let location : n ≡ 0 + n = omega arith in
-      each_replaced no_facts no_facts raw.memory raw.memory w.con.status w.con.status w.con.accepted w.con.accepted 0 w.con.queues raw.devices.con.queues known.con.queues n a s q
-      (λ k other a s q part. part) (subst (λ (k : ℕ). QueuePart raw.memory w.con.status w.con.accepted k a s q) location part) h.queues
+      each_replaced no_facts no_facts raw.memory raw.memory w.devices.con.status w.devices.con.status w.devices.con.accepted w.devices.con.accepted 0 w.devices.con.queues raw.devices.con.queues known.con.queues n a s q
+      (λ k other a s q part. part) (subst (λ (k : ℕ). QueuePart raw.memory w.devices.con.status w.devices.con.accepted k a s q) location part) h.queues

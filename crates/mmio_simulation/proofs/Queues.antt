@@ -102,10 +102,10 @@ queue_framed P mem mem2 status accepted n long same (Some a) s (Some q) p =
 
 -- a queue that is set, in the two halves and in the driver's record
 pub record IsSetAt (F : UsedFacts) (w : World) (raw : Raw MmioRegisters) (known : DriverRecord) (n : ℕ) (a : AbstractQueue) (s : QueueState) (q : DriverQueue) : Type 0 where
-  pub in_world : slice_get w.con.queues n ≡ Some (Some a)
+  pub in_world : slice_get w.devices.con.queues n ≡ Some (Some a)
   pub in_raw : slice_get raw.devices.con.queues n ≡ Some s
   pub in_record : slice_get known.con.queues n ≡ Some (Some q)
-  pub here : SetPartWith (F n) raw.memory w.con.status w.con.accepted n a s q
+  pub here : SetPartWith (F n) raw.memory w.devices.con.status w.devices.con.accepted n a s q
 
 -- a queue of the driver's record that is set is set in both halves
 pub record SetIn (F : UsedFacts) (w : World) (raw : Raw MmioRegisters) (known : DriverRecord) (n : ℕ) (q : DriverQueue) : Type 0 where
@@ -114,27 +114,27 @@ pub record SetIn (F : UsedFacts) (w : World) (raw : Raw MmioRegisters) (known : 
   pub at : IsSetAt F w raw known n a s q
 
 module _ {F : UsedFacts} {w : World} {raw : Raw MmioRegisters} {known : DriverRecord} (r : RelatedWith F w raw known) where
-  pub found_in : (n : ℕ) → Found F raw.memory w.con.status w.con.accepted n (slice_get w.con.queues n) (slice_get raw.devices.con.queues n) (slice_get known.con.queues n)
+  pub found_in : (n : ℕ) → Found F raw.memory w.devices.con.status w.devices.con.accepted n (slice_get w.devices.con.queues n) (slice_get raw.devices.con.queues n) (slice_get known.con.queues n)
   found_in n =
       let same : 0 + n ≡ n = omega arith in
-      subst (λ (k : ℕ). Found F raw.memory w.con.status w.con.accepted k (slice_get w.con.queues n) (slice_get raw.devices.con.queues n) (slice_get known.con.queues n)) same
-      (each_at F raw.memory w.con.status w.con.accepted 0 w.con.queues raw.devices.con.queues known.con.queues r.queues n)
+      subst (λ (k : ℕ). Found F raw.memory w.devices.con.status w.devices.con.accepted k (slice_get w.devices.con.queues n) (slice_get raw.devices.con.queues n) (slice_get known.con.queues n)) same
+      (each_at F raw.memory w.devices.con.status w.devices.con.accepted 0 w.devices.con.queues raw.devices.con.queues known.con.queues r.queues n)
 
   set_part : (n : ℕ) (q : DriverQueue) (a : Option AbstractQueue) (s : QueueState) (p : Option DriverQueue) → slice_get known.con.queues n ≡ Some (Some q)
-      → slice_get w.con.queues n ≡ Some a → slice_get raw.devices.con.queues n ≡ Some s → p ≡ Some q
-      → QueuePartWith (F n) raw.memory w.con.status w.con.accepted n a s p → SetIn F w raw known n q
+      → slice_get w.devices.con.queues n ≡ Some a → slice_get raw.devices.con.queues n ≡ Some s → p ≡ Some q
+      → QueuePartWith (F n) raw.memory w.devices.con.status w.devices.con.accepted n a s p → SetIn F w raw known n q
   set_part n q (Some a) s (Some p) found in_world in_raw is part =
       record {
         a = a;
         s = s;
-        at = record { in_world = in_world; in_raw = in_raw; in_record = found; here = subst (λ (p : DriverQueue). SetPartWith (F n) raw.memory w.con.status w.con.accepted n a s p) (same_Some p q is) part };
+        at = record { in_world = in_world; in_raw = in_raw; in_record = found; here = subst (λ (p : DriverQueue). SetPartWith (F n) raw.memory w.devices.con.status w.devices.con.accepted n a s p) (same_Some p q is) part };
       }
   set_part n q None s None found in_world in_raw is part = absurd (none-some q is)
   set_part n q None s (Some p) found in_world in_raw is part = absurd part
   set_part n q (Some a) s None found in_world in_raw is part = absurd part
 
   found_set : (n : ℕ) (q : DriverQueue) → slice_get known.con.queues n ≡ Some (Some q)
-      → Found F raw.memory w.con.status w.con.accepted n (slice_get w.con.queues n) (slice_get raw.devices.con.queues n) (slice_get known.con.queues n) → SetIn F w raw known n q
+      → Found F raw.memory w.devices.con.status w.devices.con.accepted n (slice_get w.devices.con.queues n) (slice_get raw.devices.con.queues n) (slice_get known.con.queues n) → SetIn F w raw known n q
   found_set n q found (NoSuchQueue in_world in_raw in_record) = absurd (none-some (Some q) (sym in_record ∙ found))
   found_set n q found (Queue a s p in_world in_raw in_record part) = set_part n q a s p found in_world in_raw (same_Some p (Some q) (sym in_record ∙ found)) part
 

@@ -71,7 +71,7 @@ module _ (known : DriverRecord) (n : ℕ) (allowed : refusal_by known (Reap Con 
   abbrev op : Operation
   op = Reap Con n
 
-  reap_is : (w : World) (raw : Raw MmioRegisters) (a : AbstractQueue) → Related w raw known → slice_get w.con.queues n ≡ Some (Some a) → operate Mmio w op ≡ reap_front w Con n a a.used
+  reap_is : (w : World) (raw : Raw MmioRegisters) (a : AbstractQueue) → Related w raw known → slice_get w.devices.con.queues n ≡ Some (Some a) → operate Mmio w op ≡ reap_front w Con n a a.used
   reap_is w raw a r is = allowed_at op refl r allowed ∙ ap (λ (o : Option (Option AbstractQueue)). reap_queue w Con n (option_flatten o)) is
 
   module _ (q : DriverQueue) (found : driver_queue known.con n ≡ Some q) where
@@ -105,7 +105,7 @@ module _ (known : DriverRecord) (n : ℕ) (allowed : refusal_by known (Reap Con 
 
     -- the abstract devices reap it
     reaps : (u : UsedHeld) (w : World) (raw : Raw MmioRegisters) (r : Before u w raw) (f : Fronted u w raw)
-        → operate Mmio w op ≡ record { world = record w { con = with_queue w.con n (record (f.at.a) { used = map used_of f.rest }) }; reply = told u }
+        → operate Mmio w op ≡ record { world = record w { devices = record w.devices { con = with_queue w.devices.con n (record (f.at.a) { used = map used_of f.rest }) } }; reply = told u }
     reaps u w raw r f = reap_is w raw f.at.a (without_facts (first_at n u) w raw known r) f.at.at.in_world ∙ ap (reap_front w Con n f.at.a) f.part.lists.finished
 
     -- what both halves are then
@@ -115,8 +115,8 @@ module _ (known : DriverRecord) (n : ℕ) (allowed : refusal_by known (Reap Con 
         let raw2 : Raw MmioRegisters = record raw { memory = mem2 } in
         let a2 : AbstractQueue = record (f.at.a) { used = map used_of f.rest } in
         let rests : RingRests (no_facts n) mem2 a2 f.at.at.here.ring (after u) = record { used = f.rest; waiting = f.at.at.here.rests.waiting; part = part; known = tt } in
-        let set = changed_part (first_at n u n) (no_facts n) raw.memory mem2 w.con.status w.con.accepted n f.at.a a2 f.at.s q (after u) f.at.at.here refl refl refl rests in
-        let left : Related (record w { con = with_queue w.con n a2 }) raw2 (known_after u) = changed_queue (first_at n u) no_facts w raw known mem2 n q f.at r changes (λ j other used h. tt) a2 (after u) set in
+        let set = changed_part (first_at n u n) (no_facts n) raw.memory mem2 w.devices.con.status w.devices.con.accepted n f.at.a a2 f.at.s q (after u) f.at.at.here refl refl refl rests in
+        let left : Related (record w { devices = record w.devices { con = with_queue w.devices.con n a2 } }) raw2 (known_after u) = changed_queue (first_at n u) no_facts w raw known mem2 n q f.at r changes (λ j other used h. tt) a2 (after u) set in
         subst (λ (o : Outcome). Related o.world raw2 (known_after u)) (sym (reaps u w raw r f)) left
 
     -- where the operation goes on to its end

@@ -16,7 +16,8 @@ use Rattle.abstract_devices.specs.World as abstract
 use Rattle.abstract_devices.specs.Operate.{operate, operate_allowed}
 use Rattle.dev_core.specs.Bus.{Raw}
 use Rattle.dev_core.specs.Device.{QueueState}
-use Rattle.drv_core.specs.Driver.{DriverRecord, record_of}
+use Rattle.by_device.specs.ByDevice.{of}
+use Rattle.drv_core.specs.Driver.{DriverRecord}
 use Rattle.drv_core.specs.Driver as driver
 use Rattle.drv_mmio.specs.Lowering.{allowed_lowering, mmio_lowering}
 use Rattle.mmio_regs.specs.Page.{MmioRegisters}
@@ -57,22 +58,22 @@ module _ (mem : List ℕ) (status accepted : ℕ) where
   each_same n (a ∷ bs) (s ∷ ss) [] h i = absurd h
 
 -- the state table sees the same on both sides
-same_known : {w : World} {raw : Raw MmioRegisters} {known : DriverRecord} → Related w raw known → SameKnown (abstract.known_of w.con) (driver.known_of known.con)
+same_known : {w : World} {raw : Raw MmioRegisters} {known : DriverRecord} → Related w raw known → SameKnown (abstract.known_of w.devices.con) (driver.known_of known.con)
 same_known {w = w} {raw = raw} {known = known} h = record {
   probed = sym h.device.known_probed;
   reset_since = sym h.device.known_reset;
   status = sym h.device.known_status;
   accepted = sym h.device.known_accepted;
-  count = same_count raw.memory w.con.status w.con.accepted 0 w.con.queues raw.devices.con.queues known.con.queues h.queues;
-  queues = each_same raw.memory w.con.status w.con.accepted 0 w.con.queues raw.devices.con.queues known.con.queues h.queues;
+  count = same_count raw.memory w.devices.con.status w.devices.con.accepted 0 w.devices.con.queues raw.devices.con.queues known.con.queues h.queues;
+  queues = each_same raw.memory w.devices.con.status w.devices.con.accepted 0 w.devices.con.queues raw.devices.con.queues known.con.queues h.queues;
 }
 
 module _ (op : Operation) (on : device_of op ≡ Con) {w : World} {raw : Raw MmioRegisters} {known : DriverRecord} (h : Related w raw known) where
   pub same_reason : refusal_in w op ≡ refusal_by known op
   same_reason =
       ap (λ (dev : Dev). refusal_of (abstract.known_of (device w dev)) op) on
-      ∙ same_refusal (abstract.known_of w.con) (driver.known_of known.con) (same_known h) op
-      ∙ sym (ap (λ (dev : Dev). refusal_of (driver.known_of (record_of known dev)) op) on)
+      ∙ same_refusal (abstract.known_of w.devices.con) (driver.known_of known.con) (same_known h) op
+      ∙ sym (ap (λ (dev : Dev). refusal_of (driver.known_of (of known dev)) op) on)
 
   -- what the driver does not refuse, the abstract devices do
   pub allowed_at : refusal_by known op ≡ None → operate Mmio w op ≡ operate_allowed Mmio w op

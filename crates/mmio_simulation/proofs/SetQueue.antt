@@ -137,19 +137,19 @@ module _ (known : DriverRecord) (n size : ℕ) (may : MaySet known n size) where
     memory = put_at raw.memory base zeros
 
     abbrev EachIn : List (Option AbstractQueue) → List QueueState → List (Option DriverQueue) → Type 0
-    EachIn bs ss qs = EachQueue memory w.con.status w.con.accepted 0 bs ss qs
+    EachIn bs ss qs = EachQueue memory w.devices.con.status w.devices.con.accepted 0 bs ss qs
 
     -- the queues of other blocks are as they were, and this one is not set
-    queues_cleared : EachIn w.con.queues raw.devices.con.queues known.con.queues
+    queues_cleared : EachIn w.devices.con.queues raw.devices.con.queues known.con.queues
     queues_cleared =
         let at : UnsetAt w raw n = unset_at h n may.unset in
         let location : 0 + n ≡ n = omega arith in
-        subst (λ (bs : List (Option AbstractQueue)). EachIn bs raw.devices.con.queues known.con.queues) (slice_set-same w.con.queues n None at.in_world)
-        (subst (λ (ss : List QueueState). EachIn (slice_set w.con.queues n None) ss known.con.queues) (slice_set-same raw.devices.con.queues n at.state at.in_raw)
-        (subst (λ (qs : List (Option DriverQueue)). EachIn (slice_set w.con.queues n None) (slice_set raw.devices.con.queues n at.state) qs) (slice_set-same known.con.queues n None may.unset)
-        (each_replaced no_facts no_facts raw.memory memory w.con.status w.con.status w.con.accepted w.con.accepted 0 w.con.queues raw.devices.con.queues known.con.queues n None at.state None
+        subst (λ (bs : List (Option AbstractQueue)). EachIn bs raw.devices.con.queues known.con.queues) (slice_set-same w.devices.con.queues n None at.in_world)
+        (subst (λ (ss : List QueueState). EachIn (slice_set w.devices.con.queues n None) ss known.con.queues) (slice_set-same raw.devices.con.queues n at.state at.in_raw)
+        (subst (λ (qs : List (Option DriverQueue)). EachIn (slice_set w.devices.con.queues n None) (slice_set raw.devices.con.queues n at.state) qs) (slice_set-same known.con.queues n None may.unset)
+        (each_replaced no_facts no_facts raw.memory memory w.devices.con.status w.devices.con.status w.devices.con.accepted w.devices.con.accepted 0 w.devices.con.queues raw.devices.con.queues known.con.queues n None at.state None
         (λ k other a s q part.
-        queue_framed (no_facts k) raw.memory memory w.con.status w.con.accepted k (length-put_at raw.memory base zeros (zeros_inside h))
+        queue_framed (no_facts k) raw.memory memory w.devices.con.status w.devices.con.accepted k (length-put_at raw.memory base zeros (zeros_inside h))
         (part-put_at_apart raw.memory base zeros (queue_block Con k) BLOCK_LEN (zeros_inside h) (zeros_apart k (λ same. other (same ∙ sym location)))) a s q part)
         at.unset_part h.queues)))
 
@@ -159,7 +159,7 @@ module _ (known : DriverRecord) (n size : ℕ) (may : MaySet known n size) where
         device = h.device;
         queues = queues_cleared;
         count = h.count;
-        console = h.console;
+        contents = h.contents;
         signals = h.signals;
         memory = length-put_at raw.memory base zeros (zeros_inside h) ∙ h.memory;
       };
@@ -236,7 +236,7 @@ module _ (known : DriverRecord) (n size : ℕ) (may : MaySet known n size) where
 
   module _ {regs : QueueRegisters} (is : described regs ≡ plain) {w : World} {raw : Raw MmioRegisters} (h : Described regs w raw) where
     abbrev set_world : World
-    set_world = record w { con = with_queue w.con n (new_queue w.con size) }
+    set_world = record w { devices = record w.devices { con = with_queue w.devices.con n (new_queue w.devices.con size) } }
 
     abbrev set_raw : Raw MmioRegisters
     set_raw = with_console_page raw (record { page = raw.registers.con; device = device.with_queue raw.devices.con n state })
@@ -278,9 +278,9 @@ module _ (known : DriverRecord) (n size : ℕ) (may : MaySet known n size) where
         let (allowed, _) = and_parts (is_ring_size size) (nat_le size GREATEST_QUEUE) may.size_allowed in
         record { size = allowed; in_block = block_holds; inside = block_inside h.clear.related }
 
-    set_part : SetPart raw.memory w.con.status w.con.accepted n (new_queue w.con size) state queue_record
+    set_part : SetPart raw.memory w.devices.con.status w.devices.con.accepted n (new_queue w.devices.con size) state queue_record
     set_part =
-        let same : known.con.accepted ≡ w.con.accepted = h.clear.related.device.known_accepted in
+        let same : known.con.accepted ≡ w.devices.con.accepted = h.clear.related.device.known_accepted in
         record {
           ring = new_device_queue cfg;
           is_set = refl;
@@ -288,7 +288,7 @@ module _ (known : DriverRecord) (n size : ℕ) (may : MaySet known n size) where
           rests = record {
             used = [];
             waiting = [];
-            part = ring_begins raw.memory cfg base w.con in_memory (ap (λ (accepted : ℕ). has_bits accepted EVENT_IDX) (sym same)) h.clear.clear;
+            part = ring_begins raw.memory cfg base w.devices.con in_memory (ap (λ (accepted : ℕ). has_bits accepted EVENT_IDX) (sym same)) h.clear.clear;
             known = tt;
           };
           block = refl;
@@ -302,9 +302,9 @@ module _ (known : DriverRecord) (n size : ℕ) (may : MaySet known n size) where
         let r : Related w raw known = h.clear.related in
         record {
           device = device_kept r.device.generation r.device;
-          queues = queue_located r n (Some (new_queue w.con size)) state (Some queue_record) set_part;
-          count = length-set w.con.queues n (Some (new_queue w.con size)) ∙ r.count;
-          console = r.console;
+          queues = queue_located r n (Some (new_queue w.devices.con size)) state (Some queue_record) set_part;
+          count = length-set w.devices.con.queues n (Some (new_queue w.devices.con size)) ∙ r.count;
+          contents = r.contents;
           signals = r.signals;
           memory = r.memory;
         }

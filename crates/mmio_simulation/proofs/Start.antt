@@ -23,7 +23,7 @@ starts disk =
       };
       queues = (record { unset = refl; kick = refl }, (record { unset = refl; kick = refl }, tt));
       count = refl;
-      console = refl;
+      contents = refl;
       signals = record { status = refl; queues = refl };
       memory = length-replicate MEMORY_LENGTH 0;
     }

@@ -46,7 +46,7 @@ abbrev probed_record : DriverRecord → DriverRecord
 probed_record known = record known { con = record known.con { probed = true } }
 
 module _ {w : World} {raw : Raw MmioRegisters} {known : DriverRecord} (h : Related w raw known) where
-  probed : Related (record w { con = record w.con { probed = true } }) raw (probed_record known)
+  probed : Related (record w { devices = record w.devices { con = record w.devices.con { probed = true } } }) raw (probed_record known)
   probed = record {
     device = record {
       step = h.device.step;
@@ -61,13 +61,13 @@ module _ {w : World} {raw : Raw MmioRegisters} {known : DriverRecord} (h : Relat
     };
     queues = h.queues;
     count = h.count;
-    console = h.console;
+    contents = h.contents;
     signals = h.signals;
     memory = h.memory;
   }
 
   -- the status that is known is the one that stands
-  status_known : (s : ℕ) → s ≡ w.con.status → Related w raw (known_with_status known s)
+  status_known : (s : ℕ) → s ≡ w.devices.con.status → Related w raw (known_with_status known s)
   status_known s is = record {
     device = record {
       step = h.device.step;
@@ -82,7 +82,7 @@ module _ {w : World} {raw : Raw MmioRegisters} {known : DriverRecord} (h : Relat
     };
     queues = h.queues;
     count = h.count;
-    console = h.console;
+    contents = h.contents;
     signals = h.signals;
     memory = h.memory;
   }
@@ -93,7 +93,7 @@ module _ {w : World} {raw : Raw MmioRegisters} {known : DriverRecord} (h : Relat
   two_queues : length raw.devices.con.queues ≡ 2
   two_queues = device_count h ∙ h.count
 
-  reset : Related (record w { con = reset_device Con w.con }) (stored Status 0 raw) (reset_record known 0)
+  reset : Related (record w { devices = record w.devices { con = reset_device Con w.devices.con } }) (stored Status 0 raw) (reset_record known 0)
   reset = record {
     device = record {
       step = BeforeAll refl;
@@ -108,7 +108,7 @@ module _ {w : World} {raw : Raw MmioRegisters} {known : DriverRecord} (h : Relat
     };
     queues = subst (λ (count : ℕ). EachQueue raw.memory 0 0 0 (replicate 2 None) (replicate count device.unset) (replicate 2 None)) (sym two_queues) (no_queue, (no_queue, tt));
     count = refl;
-    console = h.console;
+    contents = h.contents;
     signals = record { status = refl; queues = length-replicate (length raw.registers.con.queues) new_queue_registers ∙ h.signals.queues };
     memory = h.memory;
   }
@@ -118,14 +118,14 @@ module _ {w : World} {raw : Raw MmioRegisters} {known : DriverRecord} (h : Relat
   same_state =
       ap (λ (offered : ℕ). record { offered = offered; accepted = raw.devices.con.status.accepted; status = raw.devices.con.status.status }) h.device.offered
       ∙ ap (λ (accepted : ℕ). record { offered = (status_state w Con).offered; accepted = accepted; status = raw.devices.con.status.status }) h.device.accepted
-      ∙ ap (λ (status : ℕ). record { offered = (status_state w Con).offered; accepted = w.con.accepted; status = status }) h.device.status
+      ∙ ap (λ (status : ℕ). record { offered = (status_state w Con).offered; accepted = w.devices.con.accepted; status = status }) h.device.status
 
   module _ (s : Step) where
     abbrev new_status : ℕ
     new_status = status_with (status_of_step s) (status_state w Con)
 
-    step_taken : Stepped w.con.status new_status
-        → Related (record w { con = record w.con { status = new_status } })
+    step_taken : Stepped w.devices.con.status new_status
+        → Related (record w { devices = record w.devices { con = record w.devices.con { status = new_status } } })
         (with_state raw (record raw.devices.con.status { status = status_with (status_of_step s) raw.devices.con.status }))
         (known_with_status known new_status)
     step_taken new = record {
@@ -140,24 +140,24 @@ module _ {w : World} {raw : Raw MmioRegisters} {known : DriverRecord} (h : Relat
         known_status = refl;
         known_accepted = h.device.known_accepted;
       };
-      queues = at_status h new_status w.con.accepted (λ agreed. (new.agreed agreed, refl));
+      queues = at_status h new_status w.devices.con.accepted (λ agreed. (new.agreed agreed, refl));
       count = h.count;
-      console = h.console;
+      contents = h.contents;
       signals = h.signals;
       memory = h.memory;
     }
 
     -- what the abstract step leaves
     step_outcome_is : refusal_by known (SetStatus Con s) ≡ None
-        → operate Mmio w (SetStatus Con s) ≡ record { world = record w { con = record w.con { status = new_status } }; reply = reply.Status new_status }
+        → operate Mmio w (SetStatus Con s) ≡ record { world = record w { devices = record w.devices { con = record w.devices.con { status = new_status } } }; reply = reply.Status new_status }
     step_outcome_is allowed =
-        allowed_at (SetStatus Con s) refl h allowed ∙ ap (λ (state : StatusState). step_outcome w Con (with_status w.con state)) (step_written s (status_state w Con))
+        allowed_at (SetStatus Con s) refl h allowed ∙ ap (λ (state : StatusState). step_outcome w Con (with_status w.devices.con state)) (step_written s (status_state w Con))
 
-    step_follows : refusal_by known (SetStatus Con s) ≡ None → Stepped w.con.status new_status
+    step_follows : refusal_by known (SetStatus Con s) ≡ None → Stepped w.devices.con.status new_status
     step_follows allowed =
         let (ready, end) = none_holds ((not (known.con.reset_since && known.con.status == status_before s), why.State) ∷ []) allowed in
         let (reset_since, before) = and_parts known.con.reset_since (known.con.status == status_before s) (not-false (known.con.reset_since && known.con.status == status_before s) ready) in
-        stepped s (status_state w Con).offered w.con.accepted w.con.status (sym h.device.known_status ∙ eqb-true known.con.status (status_before s) before)
+        stepped s (status_state w Con).offered w.devices.con.accepted w.devices.con.status (sym h.device.known_status ∙ eqb-true known.con.status (status_before s) before)
 
 abbrev At : DriverRecord → Invariant MmioRegisters
 At known w raw = Related w raw known
@@ -189,7 +189,7 @@ getstatus_safe known allowed h =
     safe_load Status (At known) (related_kept known) h
     (λ n w v raw h.
     let read : ℕ = low_byte (raw.devices.con.status.status % 2 ^ 32) in
-    let is : read ≡ w.con.status = byte_read raw.devices.con.status.status w.con.status h.device.status h.device.step in
+    let is : read ≡ w.devices.con.status = byte_read raw.devices.con.status.status w.devices.con.status h.device.status h.device.step in
     safe_mark_as (allowed_at (GetStatus Con) refl h allowed) (safe_ended (related_kept (known_with_status known read)) (ap reply.Status (sym is)) (status_known h read is)))
 
 -- the status that is read back is the one after the mark
@@ -199,9 +199,9 @@ status_safe known s allowed h =
     safe_store Status (status_of_step s) (At known) (related_kept known) h
     (λ n w v raw h.
     let status : ℕ = new_status h s in
-    let new : Stepped w.con.status status = step_follows h s allowed in
-    let after : Related (record w { con = record w.con { status = status } }) (stored Status (status_of_step s) raw) (known_with_status known status)
-    = subst (λ (raw : Raw MmioRegisters). Related (record w { con = record w.con { status = status } }) raw (known_with_status known status)) (sym (step_stored s raw)) (step_taken h s new)
+    let new : Stepped w.devices.con.status status = step_follows h s allowed in
+    let after : Related (record w { devices = record w.devices { con = record w.devices.con { status = status } } }) (stored Status (status_of_step s) raw) (known_with_status known status)
+    = subst (λ (raw : Raw MmioRegisters). Related (record w { devices = record w.devices { con = record w.devices.con { status = status } } }) raw (known_with_status known status)) (sym (step_stored s raw)) (step_taken h s new)
     in
     safe_mark_as (step_outcome_is h s allowed)
     (safe_load_after Status (At (known_with_status known status)) (related_kept (known_with_status known status)) after

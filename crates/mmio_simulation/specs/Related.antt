@@ -12,7 +12,6 @@ use Rattle.abstract_devices.specs.World.{World, AbstractDevice, AbstractQueue}
 use Rattle.dev_core.specs.declared.ring.RingKind.TheVariants.{Split}
 use Rattle.dev_core.specs.Bus.{Raw, MEMORY_LENGTH}
 use Rattle.dev_core.specs.Device.{DeviceState, QueueState}
-use Rattle.dev_core.specs.Devices.{Devices}
 use Rattle.drv_core.specs.Driver.{DriverRecord, DeviceRecord}
 use Rattle.mmio_regs.specs.Page.{Page, MmioRegisters}
 use Rattle.ring_part.specs.Held.{UsedHeld}
@@ -85,19 +84,6 @@ EachQueueWith F mem status accepted n [] (s ∷ ss) qs = ⊥
 EachQueueWith F mem status accepted n (a ∷ bs) [] qs = ⊥
 EachQueueWith F mem status accepted n (a ∷ bs) (s ∷ ss) [] = ⊥
 
--- the console's size, its waiting input and its bytes, in each half
-pub record ConsoleContent : Type 0 where
-  pub cols : ℕ
-  pub rows : ℕ
-  pub waiting : List ℕ
-  pub console : List ℕ
-
-abbrev pub console_of : World → ConsoleContent
-console_of w = record { cols = w.cols; rows = w.rows; waiting = w.waiting; console = w.console }
-
-abbrev pub console_in : Devices → ConsoleContent
-console_in s = record { cols = s.cols; rows = s.rows; waiting = s.waiting; console = s.console }
-
 -- the signal part of MMIO: one bit for all queues that signalled, and one for a changed configuration
 abbrev pub has_any : List ℕ → Bool
 has_any [] = false
@@ -113,11 +99,11 @@ pub record SignalPart (signalled : List ℕ) (config_changed : Bool) (p : Page) 
 
 -- with what is known besides of the used buffers
 pub record RelatedWith (F : UsedFacts) (w : World) (raw : Raw MmioRegisters) (known : DriverRecord) : Type 0 where
-  pub device : DevicePart w.con raw.devices.con known.con
-  pub queues : EachQueueWith F raw.memory w.con.status w.con.accepted 0 w.con.queues raw.devices.con.queues known.con.queues
-  pub count : length w.con.queues ≡ 2
-  pub console : console_in raw.devices ≡ console_of w
-  pub signals : SignalPart w.con.signalled w.con.config_changed raw.registers.con
+  pub device : DevicePart w.devices.con raw.devices.con known.con
+  pub queues : EachQueueWith F raw.memory w.devices.con.status w.devices.con.accepted 0 w.devices.con.queues raw.devices.con.queues known.con.queues
+  pub count : length w.devices.con.queues ≡ 2
+  pub contents : raw.devices.contents ≡ w.contents
+  pub signals : SignalPart w.devices.con.signalled w.devices.con.config_changed raw.registers.con
   pub memory : length raw.memory ≡ MEMORY_LENGTH
 
 -- the relation itself, and its part of the queues

@@ -24,7 +24,7 @@ impl Simulation for MmioSimulation {
 
     fn keeps_events() {}
 
-    fn same_console() {}
+    fn same_contents() {}
 
     fn begins() {}
 

@@ -29,5 +29,5 @@ abbrev pub raw_script : {R : Type 0} → BusTable R → Script (Raw R)
 raw_script bus = record {
   start = λ sectors read_only. new_raw bus;
   line = λ line. option_map (raw_line_does bus) (if_there (raw_line line));
-  last = λ raw sectors outcomes. end_text [] raw.devices.console sectors outcomes;
+  last = λ raw sectors outcomes. end_text [] raw.devices.contents.console.console sectors outcomes;
 }

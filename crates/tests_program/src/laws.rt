@@ -8,7 +8,7 @@ use std::test::Fail;
 fn each_law_is_called() -> Result<(), Fail> {
     MmioSimulation::starts();
     MmioSimulation::keeps_events();
-    MmioSimulation::same_console();
+    MmioSimulation::same_contents();
     MmioSimulation::begins();
     MmioSimulation::is_short();
     interleaved::<MmioSimulation>();

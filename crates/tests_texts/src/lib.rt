@@ -1,4 +1,4 @@
-//! Tests of script_text, report_text, report_out, line_runner, raw_run, over what they show to callers.
+//! Tests of script_text, report_text, report_out, line_runner and raw_run, over what they show to callers.
 #![tactic(auto)]
 
 #[cfg(test)]

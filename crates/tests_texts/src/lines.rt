@@ -82,6 +82,47 @@ struct Row<'a> {
     shown: &'a str,
 }
 
+/// A row in which no call fails.
+const CALM: Row<'static> = Row {
+    script: "a\nb",
+    traces: false,
+    source: &[],
+    sink: &[],
+    status: 0,
+    text: "aabbframes 0\nconsole -\ndisk 2\nend\n",
+    shown: "ab",
+};
+
+const ROWS: [Row<'static>; 5] = [
+    CALM,
+    Row {
+        traces: true,
+        text: "aaabbbframes 0\nconsole -\ndisk 2\nend\n",
+        ..CALM
+    },
+    Row {
+        script: "a\n\nb",
+        status: 3,
+        text: "aafault 2\n",
+        shown: "a",
+        ..CALM
+    },
+    Row {
+        source: &[0, 1],
+        status: 4,
+        text: "aa",
+        shown: "a",
+        ..CALM
+    },
+    Row {
+        traces: true,
+        sink: &[0, 0, 0, 1],
+        status: 5,
+        text: "aaab",
+        ..CALM
+    },
+];
+
 fn list(alloc: Global, bytes: &[u8]) -> Result<Bytes, Memory> {
     let mut all = Bytes::new(alloc);
     all.extend(alloc, bytes)?;
@@ -110,45 +151,8 @@ fn holds(alloc: Global, row: &Row<'_>) -> Result<bool, AllocError> {
 }
 
 #[test]
-fn rows(rt: HostRuntime) -> Result<(), Fail> {
-    let calm = Row {
-        script: "a\nb",
-        traces: false,
-        source: &[],
-        sink: &[],
-        status: 0,
-        text: "aabbframes 0\nconsole -\ndisk 2\nend\n",
-        shown: "ab",
-    };
-    for row in [
-        calm,
-        Row {
-            traces: true,
-            text: "aaabbbframes 0\nconsole -\ndisk 2\nend\n",
-            ..calm
-        },
-        Row {
-            script: "a\n\nb",
-            status: 3,
-            text: "aafault 2\n",
-            shown: "a",
-            ..calm
-        },
-        Row {
-            source: &[0, 1],
-            status: 4,
-            text: "aa",
-            shown: "a",
-            ..calm
-        },
-        Row {
-            traces: true,
-            sink: &[0, 0, 0, 1],
-            status: 5,
-            text: "aaab",
-            ..calm
-        },
-    ] {
+fn rows_of_lines(rt: HostRuntime) -> Result<(), Fail> {
+    for row in ROWS {
         assert!(rt; holds(rt.alloc(), &row)?, "{} {}", row.status, row.text);
     }
     Ok(())

@@ -23,17 +23,15 @@ struct Row<'a> {
 }
 
 /// A row in which no call fails.
-fn calm<'a>(script: &'a str, status: u8, text: &'a str) -> Row<'a> {
-    Row {
-        script,
-        source: &[],
-        sink: &[],
-        disk: &[],
-        status,
-        failed: 0,
-        text,
-    }
-}
+const CALM: Row<'static> = Row {
+    script: "",
+    source: &[],
+    sink: &[],
+    disk: &[],
+    status: 0,
+    failed: 0,
+    text: END,
+};
 
 fn list(alloc: Global, bytes: &[u8]) -> Result<Bytes, Memory> {
     let mut all = Bytes::new(alloc);
@@ -101,61 +99,87 @@ const MALFORMED: &str =
 const NEEDS_RESET: &str =
     "1 ok\n2 ok\n3 ok\n4 ok\n5 ok\n6 ok\n7 ok\n8 ok\n9 ok\n11 0000004f\n12 00000002\nframes 0\nconsole -\ndisk 2\nend\n";
 
+const TWO_LOADS: &str = "load 40002000 4\nload 40002004 4\n";
+
+/// Rows in which no call fails: a script, the status, and what is written.
+const CALM_ROWS: [(&str, u8, &str); 7] = [
+    (ACCESSES, 0, ANSWERED),
+    (MALFORMED, 0, NEEDS_RESET),
+    ("", 0, END),
+    (
+        "# nothing\n\nload 40002000 4",
+        0,
+        "3 74726976\nframes 0\nconsole -\ndisk 2\nend\n",
+    ),
+    (
+        "store 40002108 4 41\nload 40002008 4",
+        0,
+        "1 ok\n2 00000003\nframes 0\nconsole 41\ndisk 2\nend\n",
+    ),
+    (
+        "load 40002000 4\nload 40002000 3\nload 40002000 4\n",
+        3,
+        "1 74726976\nfault 2\n",
+    ),
+    (
+        "ev serve con 0\nev key 61\nev consize 90 30\nload 40002100 4\nev serve blk 0\n",
+        3,
+        "4 001e005a\nfault 5\n",
+    ),
+];
+
+/// Rows in which a call fails.
+const FAILING_ROWS: [Row<'static>; 5] = [
+    Row {
+        script: TWO_LOADS,
+        source: &[0, 1],
+        status: 4,
+        text: "1 74726976\n2 00000002\n",
+        ..CALM
+    },
+    Row {
+        script: TWO_LOADS,
+        source: &[1],
+        status: 4,
+        text: "",
+        ..CALM
+    },
+    Row {
+        script: TWO_LOADS,
+        sink: &[0, 1],
+        status: 5,
+        failed: 1,
+        text: "1 74726976\n",
+        ..CALM
+    },
+    Row {
+        script: TWO_LOADS,
+        sink: &[0, 0, 1],
+        status: 5,
+        failed: 1,
+        text: "1 74726976\n2 00000002\n",
+        ..CALM
+    },
+    Row {
+        disk: &[0, 1],
+        text: "frames 0\nconsole -\ndisk 2\nsector 1 unreadable\nend\n",
+        ..CALM
+    },
+];
+
 #[test]
-fn rows(rt: HostRuntime) -> Result<(), Fail> {
-    let two = "load 40002000 4\nload 40002004 4\n";
-    for row in [
-        calm(ACCESSES, 0, ANSWERED),
-        calm(MALFORMED, 0, NEEDS_RESET),
-        calm("", 0, END),
-        calm(
-            "# nothing\n\nload 40002000 4",
-            0,
-            "3 74726976\nframes 0\nconsole -\ndisk 2\nend\n",
-        ),
-        calm(
-            "store 40002108 4 41\nload 40002008 4",
-            0,
-            "1 ok\n2 00000003\nframes 0\nconsole 41\ndisk 2\nend\n",
-        ),
-        calm(
-            "load 40002000 4\nload 40002000 3\nload 40002000 4\n",
-            3,
-            "1 74726976\nfault 2\n",
-        ),
-        calm(
-            "ev serve con 0\nev key 61\nev consize 90 30\nload 40002100 4\nev serve blk 0\n",
-            3,
-            "4 001e005a\nfault 5\n",
-        ),
-        Row {
-            source: &[0, 1],
-            ..calm(two, 4, "1 74726976\n2 00000002\n")
-        },
-        Row {
-            source: &[1],
-            ..calm(two, 4, "")
-        },
-        Row {
-            sink: &[0, 1],
-            failed: 1,
-            ..calm(two, 5, "1 74726976\n")
-        },
-        Row {
-            sink: &[0, 0, 1],
-            failed: 1,
-            ..calm(two, 5, "1 74726976\n2 00000002\n")
-        },
-        Row {
-            disk: &[0, 1],
-            ..calm(
-                "",
-                0,
-                "frames 0\nconsole -\ndisk 2\nsector 1 unreadable\nend\n",
-            )
-        },
-    ] {
-        assert!(rt; holds(rt.alloc(), &row)?, "{}", row.script);
+fn rows_of_raw_scripts(rt: HostRuntime) -> Result<(), Fail> {
+    for (script, status, text) in CALM_ROWS {
+        let row = Row {
+            script,
+            status,
+            text,
+            ..CALM
+        };
+        assert!(rt; holds(rt.alloc(), &row)?, "{script}");
+    }
+    for row in FAILING_ROWS {
+        assert!(rt; holds(rt.alloc(), &row)?, "{} {}", row.status, row.text);
     }
     Ok(())
 }
@@ -169,6 +193,12 @@ fn a_script_that_is_too_long(rt: HostRuntime) -> Result<(), Fail> {
         )?;
     }
     script.push_str("\n")?;
-    assert!(rt; holds(rt.alloc(), &calm(script.as_str(), 7, "too long\n"))?);
+    let row = Row {
+        script: script.as_str(),
+        status: 7,
+        text: "too long\n",
+        ..CALM
+    };
+    assert!(rt; holds(rt.alloc(), &row)?);
     Ok(())
 }

@@ -217,7 +217,7 @@ impl<B: Bus, D: Disk> Machine<B, D> {
 
     /// The bytes that the console was given.
     pub fn console(&self) -> &[u8]
-        ensures { result.now ≡ self.now.raw.devices.console }
+        ensures { result.now ≡ self.now.raw.devices.contents.console.console }
     {
         self.raw.console()
     }

@@ -6,7 +6,8 @@ use Rattle.vt_types.specs.Reply.{Good}
 use Rattle.vq_common.specs.declared.chain.RingCfg.{RingCfg}
 use Rattle.vq_common.specs.Queue.{is_queue_size, new_driver_queue}
 use Rattle.state_table.specs.Refusal.{AGREED, is_queue_set}
-use Rattle.drv_core.specs.Driver.{DeviceRecord, DriverRecord, Ended, known_of, record_of, with_driver_queue}
+use Rattle.by_device.specs.ByDevice.{of}
+use Rattle.drv_core.specs.Driver.{DeviceRecord, DriverRecord, Ended, known_of, with_driver_queue}
 use Rattle.drv_core.proofs.RefusalLaws.{may_set}
 use Rattle.drv_mmio.specs.Calls.{describe_queue}
 use Rattle.drv_mmio.specs.Lowering.{cfg_of, setq_lowering}
@@ -14,7 +15,7 @@ use Rattle.drv_mmio.proofs.queue.set_queue.Goals as goal
 
 pub set_queue-requires-clause-size : goal.set_queue-requires-clause-size
 set_queue-requires-clause-size g c =
-    let d : DeviceRecord = record_of c.args.driver.now c.args.dev in
+    let d : DeviceRecord = of c.args.driver.now c.args.dev in
     let kept : d.accepted ≡ c.accepted-accepted.result.0 = sym (c.accepted-accepted.ensures ∙ ap (λ (e : DeviceRecord). e.accepted) c.device.ensures.value) in
     let is : c.ring-cfg.result ≡ cfg_of d c.args.dev c.args.queue c.args.size = c.ring-cfg.ensures.value d kept in
     let allowed : is_queue_size c.args.size ≡ true = (may_set d c.args.queue c.args.size ((known_of d).status == AGREED) (is_queue_set (known_of d) c.args.queue) c.requires.allowed).1 in
@@ -22,7 +23,7 @@ set_queue-requires-clause-size g c =
 
 pub returns : goal.returns
 returns g c =
-    let d : DeviceRecord = record_of c.args.driver.now c.args.dev in
+    let d : DeviceRecord = of c.args.driver.now c.args.dev in
     let kept : d.accepted ≡ c.accepted-accepted.result.0 = sym (c.accepted-accepted.ensures ∙ ap (λ (e : DeviceRecord). e.accepted) c.device.ensures.value) in
     let is : c.ring-cfg.result ≡ cfg_of d c.args.dev c.args.queue c.args.size = c.ring-cfg.ensures.value d kept in
     let known : DriverRecord = with_driver_queue c.args.driver.now c.args.dev c.args.queue (new_driver_queue (cfg_of d c.args.dev c.args.queue c.args.size) (queue_block c.args.dev c.args.queue)) in
